@@ -1,0 +1,9 @@
+// Window lists: the check that only looks.
+mod check;
+mod refusal;
+
+pub use check::check_count;
+pub use check::check_frame;
+pub use check::check_list;
+pub use check::check_window;
+pub use refusal::WindowRefusal;
