@@ -10,14 +10,20 @@ pub data Answer (A : Type 0) : Type 0 where
   refused : ℕ → List ℕ → Answer A
   no-memory : Answer A
 
--- the first answer is the second, unless it says that memory is wanting
-abbrev pub Gives : {A : Type 0} → Answer A → Answer A → Type 0
-Gives (granted x) b = granted x ≡ b
-Gives (refused n vs) b = refused n vs ≡ b
-Gives no-memory b = Unit {0}
+-- the first answer is the second, or it says that memory is wanting, and then P
+abbrev pub Gives : {A : Type 0} → Answer A → Answer A → Type 0 → Type 0
+Gives (granted x) b P = granted x ≡ b
+Gives (refused n vs) b P = refused n vs ≡ b
+Gives no-memory b P = P
 
 -- the second answer, where the first call is not refused
 abbrev pub and-then : {A B : Type 0} → Answer A → Answer B → Answer B
 and-then (granted x) b = b
 and-then (refused n vs) b = refused n vs
 and-then no-memory b = no-memory
+
+-- what a call leaves of something: changed where the call is granted, else as it was
+abbrev pub leaves : {A B : Type 0} → Answer A → B → B → B
+leaves (granted x) changed was = changed
+leaves (refused n vs) changed was = was
+leaves no-memory changed was = was
