@@ -10,9 +10,10 @@ use lib.ListN.{length, getD, set}
 use Rattle.std.proofs.shelf.Lists.{length-map, map-set, getD-map, getD-default, set-getD}
 use Rattle.std.proofs.shelf.Tests.{cases-bool, cond-true, cond-false, and-parts, and-from, lt-ltb, le-ltb, le-leb}
 use Rattle.std.specs.Of.Vec.{vec-items, vec-len}
+use Rattle.std.specs.declared.option.Option.{Option}
 use Rattle.std.specs.declared.option.Option.the-variants.{Some, None}
 use Rattle.model.specs.declared.task.Task.{Task}
-use Rattle.model.specs.Answers.{Answer, granted, refused, no-memory, Gives, leaves}
+use Rattle.model.specs.Answers.{Answer, granted, refused, Gives, leaves-if}
 use Rattle.model.specs.Modules.{Module, task, task-within, tasks-of, within-limits, all-within, partition-within, partitions-within, module-within}
 use Rattle.draft.specs.declared.draft.Partition.{Partition}
 use Rattle.draft.specs.declared.draft.Draft.{Draft}
@@ -53,18 +54,18 @@ module _ (items : List Partition) (p : ℕ) (old : Partition) (h : p < length it
   full-here f x e = subst Full (is ∙ (getD-default items p old x h ∙ sym e)) f
 
   -- what a partition answers is what the draft answers
-  pub task-answer-at : (k : Task) (a : Answer ℕ) → Gives a (task-answer-in (tasks-in old) k) (Full old) → Gives a (task-answer (map tasks-in items) p k) ((x : Partition) → x ≡ getD items p x → Full x)
-  task-answer-at k (granted n) g = g ∙ task-answer-here k
-  task-answer-at k (refused n vs) g = g ∙ task-answer-here k
-  task-answer-at k no-memory f = full-here f
+  pub task-answer-at : (k : Task) (a : Option (Answer ℕ)) → Gives a (task-answer-in (tasks-in old) k) (Full old) → Gives a (task-answer (map tasks-in items) p k) ((x : Partition) → x ≡ getD items p x → Full x)
+  task-answer-at k (Some (granted n)) g = g ∙ task-answer-here k
+  task-answer-at k (Some (refused n vs)) g = g ∙ task-answer-here k
+  task-answer-at k None f = full-here f
 
   -- what a partition's call leaves is what the draft's leaves
-  pub module-after : (new : Partition) (k : Task) (a : Answer ℕ) → tasks-in new ≡ leaves a (tasks-in old ++ (k ∷ [])) (tasks-in old) → map tasks-in (set items p new) ≡ leaves a (with-task (map tasks-in items) p k) (map tasks-in items)
-  module-after new k (granted n) e =
+  pub module-after : (new : Partition) (k : Task) (a : Option (Answer ℕ)) → tasks-in new ≡ leaves-if a (tasks-in old ++ (k ∷ [])) (tasks-in old) → map tasks-in (set items p new) ≡ leaves-if a (with-task (map tasks-in items) p k) (map tasks-in items)
+  module-after new k (Some (granted n)) e =
       map-set tasks-in items p new ∙ ap (set (map tasks-in items) p) (e ∙ ap (λ ks. ks ++ (k ∷ [])) (sym tasks-at))
-  module-after new k (refused n vs) e =
+  module-after new k (Some (refused n vs)) e =
       map-set tasks-in items p new ∙ (ap (set (map tasks-in items) p) (e ∙ sym tasks-at) ∙ set-getD (map tasks-in items) p [])
-  module-after new k no-memory e =
+  module-after new k None e =
       map-set tasks-in items p new ∙ (ap (set (map tasks-in items) p) (e ∙ sym tasks-at) ∙ set-getD (map tasks-in items) p [])
 
 pub task-answer-past : (items : List Partition) (p : ℕ) (k : Task) → length items ≤ p → refused 12 [] ≡ task-answer (map tasks-in items) p k
