@@ -3,4 +3,10 @@ mod task;
 mod window;
 
 pub use task::Task;
+pub use task::TaskDebug;
+pub use task::TaskEq;
+pub use task::TaskPartialEq;
 pub use window::Window;
+pub use window::WindowDebug;
+pub use window::WindowEq;
+pub use window::WindowPartialEq;
