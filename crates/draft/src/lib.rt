@@ -5,3 +5,6 @@ mod refusal;
 pub use draft::Draft;
 pub use draft::Partition;
 pub use refusal::DraftRefusal;
+pub use refusal::DraftRefusalDebug;
+pub use refusal::DraftRefusalEq;
+pub use refusal::DraftRefusalPartialEq;

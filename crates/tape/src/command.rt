@@ -7,7 +7,7 @@ ghost use Rattle.std.specs.Vec.{made};
 ghost use Rattle.std.specs.declared.result.Result.the-variants.{Ok, Err};
 ghost use Rattle.tape.specs.Commands.{bytes};
 ghost use Rattle.tape.specs.Decode.{command, admits, operands};
-ghost use Rattle.tape.specs.Faults.{number};
+ghost use Rattle.tape.specs.Faults.{tape-number};
 use crate::fault::TapeFault;
 use model::Window;
 use model::WindowDebug;
@@ -54,7 +54,7 @@ fn word(high: u8, low: u8) -> u16
 
 // A command with its operands, and what follows it; 71 where the tape stops inside it.
 fn operands(tape: &[u8]) -> Result<(Command, &[u8]), TapeFault>
-    ensures answer { λ r. ⌜ Cases r (λ p. operands (now (tape .entry)) ≡ Ok (p .0, now (p .1))) (λ e. operands (now (tape .entry)) ≡ Err (number e)) ⌝ }
+    ensures answer { λ r. ⌜ Cases r (λ p. operands (now (tape .entry)) ≡ Ok (p .0, now (p .1))) (λ e. operands (now (tape .entry)) ≡ Err (tape-number e)) ⌝ }
     ensures bytes { λ r. ⌜ made r (λ p. now (tape .entry) ≡ bytes (p .0) ++ now (p .1)) ⌝ }
 {
     match tape {
@@ -75,7 +75,7 @@ fn operands(tape: &[u8]) -> Result<(Command, &[u8]), TapeFault>
 
 // The next command of a tape, and what follows it: 72, 73, 71.
 pub(crate) fn next_command(turn: Turn, tape: &[u8]) -> Result<(Command, &[u8]), TapeFault>
-    ensures answer { λ r. ⌜ Cases r (λ p. command turn (now (tape .entry)) ≡ Ok (p .0, now (p .1))) (λ e. command turn (now (tape .entry)) ≡ Err (number e)) ⌝ }
+    ensures answer { λ r. ⌜ Cases r (λ p. command turn (now (tape .entry)) ≡ Ok (p .0, now (p .1))) (λ e. command turn (now (tape .entry)) ≡ Err (tape-number e)) ⌝ }
     ensures bytes { λ r. ⌜ made r (λ p. now (tape .entry) ≡ bytes (p .0) ++ now (p .1)) ⌝ }
 {
     let [first, ..] = tape else {

@@ -1,7 +1,10 @@
 // Load tapes: the commands, the reader and the writer.
 mod command;
 mod fault;
+mod load;
 
 pub use command::Command;
 pub use command::Turn;
+pub use fault::CommandFault;
+pub use fault::Layer;
 pub use fault::TapeFault;

@@ -7,3 +7,6 @@ pub use check::check_frame;
 pub use check::check_list;
 pub use check::check_window;
 pub use refusal::WindowRefusal;
+pub use refusal::WindowRefusalDebug;
+pub use refusal::WindowRefusalEq;
+pub use refusal::WindowRefusalPartialEq;
