@@ -1,1 +1,4 @@
+pub mod Commands
+pub mod Lists
+pub mod SoFar
 pub mod Words

@@ -103,23 +103,33 @@ is-end End = true
 abbrev pub ended : ℕ → Progress → List ℕ → Reading Contents
 ended n l rest = cond (eqb (length rest) 0) (done (contents l)) (faulty 74 Tape (n - length rest))
 
--- a command's fault gains the command's offset o; else reading goes on
-abbrev pub after-command : ℕ → Result Progress (ℕ × Layer) → (Progress → Reading Contents) → Reading Contents
-after-command o (Ok l) go = go l
-after-command o (Err e) go = faulty (e .0) (e .1) o
+-- the next command, read and obeyed: the command, what follows it, and what is read then
+abbrev pub after-obeyed : Command → List ℕ → Result Progress (ℕ × Layer) → Result (Command × List ℕ × Progress) (ℕ × Layer)
+after-obeyed c rest (Ok l) = Ok (c, rest, l)
+after-obeyed c rest (Err e) = Err e
 
-abbrev pub after-bytes : ℕ → Result (Command × List ℕ) ℕ → (Command → List ℕ → Reading Contents) → Reading Contents
-after-bytes o (Ok p) go = go (p .0) (p .1)
-after-bytes o (Err k) go = faulty k Tape o
+abbrev pub after-bytes : Progress → Result (Command × List ℕ) ℕ → Result (Command × List ℕ × Progress) (ℕ × Layer)
+after-bytes l (Ok p) = after-obeyed (p .0) (p .1) (obeyed l (p .0))
+after-bytes l (Err k) = Err (k, Tape)
 
--- Reads on where xs is left of a tape of n bytes; at most `most` commands are left, and none is a tape that stops.
+abbrev pub next : Progress → List ℕ → Result (Command × List ℕ × Progress) (ℕ × Layer)
+next l xs = after-bytes l (command (l .turn) xs)
+
+-- a fault gains the offset o of its command; else reading goes on
+abbrev pub after-next : ℕ → Result (Command × List ℕ × Progress) (ℕ × Layer) → (Command → List ℕ → Progress → Reading Contents) → Reading Contents
+after-next o (Ok p) go = go (p .0) (p .1) (p .2)
+after-next o (Err e) go = faulty (e .0) (e .1) o
+
+-- Reads on where xs is left of a tape of n bytes, by at most so many commands: a tape has no more of them than bytes.
 abbrev pub decode-from : ℕ → ℕ → Progress → List ℕ → Reading Contents
 decode-from zero n l xs = faulty 71 Tape (n - length xs)
 decode-from (suc most) n l xs =
-    after-bytes (n - length xs) (command (l .turn) xs) (λ c rest.
-    cond (is-end c) (ended n l rest)
-    (after-command (n - length xs) (obeyed l c) (λ next. decode-from most n next rest)))
+    after-next (n - length xs) (next l xs) (λ c rest then. cond (is-end c) (ended n then rest) (decode-from most n then rest))
 
 -- what a tape gives
 abbrev pub decode : List ℕ → Reading Contents
 decode xs = decode-from (length xs) (length xs) nothing-read xs
+
+-- what the reader gives, by the places of the list that it is lent
+abbrev pub reading : ℕ → List ℕ → Reading Contents
+reading places xs = cond (leb 64 places) (decode xs) (declined 76)

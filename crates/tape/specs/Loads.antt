@@ -17,8 +17,8 @@ use Rattle.tape.specs.Loading.{Progress}
 abbrev pub progress : Load → Progress
 progress l = record { partitions = module-of (l .draft); frame = l .frame; windows = vec-items (l .windows); turn = l .turn }
 
--- a refusal as the rules have it; nothing is asked where memory is wanting
-abbrev pub Fails : Option (ℕ × Layer) → Result Progress (ℕ × Layer) → Type 0
+-- a fault as the rules have it; nothing is asked where memory is wanting
+abbrev pub Fails : {A : Type 0} → Option (ℕ × Layer) → Result A (ℕ × Layer) → Type 0
 Fails (Some e) given = given ≡ Err e
 Fails None given = Unit {0}
 

@@ -2,9 +2,12 @@
 mod command;
 mod fault;
 mod load;
+mod reader;
 
 pub use command::Command;
 pub use command::Turn;
 pub use fault::CommandFault;
 pub use fault::Layer;
 pub use fault::TapeFault;
+pub use reader::Loaded;
+pub use reader::ReadRefusal;
