@@ -57,7 +57,7 @@ a-partition AfterPartition m ws i o = (refl, o .0)
 a-partition AfterTask m ws i o = (refl, o .0)
 a-partition AfterFrame m ws i o = absurd (false≢true i)
 
-the-frame : (t : Turn) (f : ℕ) (ws : List ModelWindow) → after-frame t ≡ true → framed t f ws ≡ Frame f ∷ map Window ws
+pub the-frame : (t : Turn) (f : ℕ) (ws : List ModelWindow) → after-frame t ≡ true → framed t f ws ≡ Frame f ∷ map Window ws
 the-frame Start f ws a = absurd (false≢true a)
 the-frame AfterPartition f ws a = absurd (false≢true a)
 the-frame AfterTask f ws a = absurd (false≢true a)

@@ -1,7 +1,10 @@
 -- The reader's state as what has been read.
 use mathlib.Core.Path.{_≡_}
-use mathlib.Core.List.{[]}
-use Prim.Native.Nat.{ℕ}
+use mathlib.Core.Bool.{cond}
+use mathlib.Core.List.{List}
+use Prim.Native.Nat.{ℕ, _+_}
+use lib.Dec.{eqb}
+use lib.ListN.{length}
 use Rattle.std.specs.Of.Vec.{vec-items}
 use Rattle.std.specs.declared.option.Option.{Option}
 use Rattle.std.specs.declared.option.Option.the-variants.{Some, None}
@@ -10,9 +13,13 @@ use Rattle.std.specs.declared.result.Result.the-variants.{Ok, Err}
 use Rattle.draft.specs.Drafts.{module-of}
 use Rattle.tape.specs.declared.load.Load.{Load}
 use Rattle.tape.specs.declared.fault.CommandFault.{CommandFault}
+use Rattle.tape.specs.declared.fault.CommandFault.the-variants.{Tape}
+use Rattle.tape.specs.declared.fault.TapeFault.the-variants.{TrailingBytes}
 use Rattle.tape.specs.declared.fault.Layer.{Layer}
+use Rattle.tape.specs.declared.reader.ReadRefusal.{ReadRefusal}
+use Rattle.tape.specs.declared.reader.ReadRefusal.the-variants.{ShortList, Fault}
 use Rattle.tape.specs.Faults.{placed}
-use Rattle.tape.specs.Loading.{Progress}
+use Rattle.tape.specs.Loading.{Progress, Contents, Reading, faulty, declined}
 
 abbrev pub progress : Load → Progress
 progress l = record { partitions = module-of (l .draft); frame = l .frame; windows = vec-items (l .windows); turn = l .turn }
@@ -26,3 +33,16 @@ Fails None given = Unit {0}
 abbrev pub Obeys : Result (Unit {0}) CommandFault → Result Progress (ℕ × Layer) → Progress → Type 0
 Obeys (Ok x) given after = given ≡ Ok after
 Obeys (Err e) given after = Fails (placed e) given
+
+-- a load, if nothing follows the end, whose offset is o
+abbrev pub whole-tape : ℕ → Load → List ℕ → Result Load ReadRefusal
+whole-tape o l rest = cond (eqb (length rest) 0) (Ok l) (Err (Fault (Tape TrailingBytes) (o + 1)))
+
+abbrev pub fault-at : Option (ℕ × Layer) → ℕ → Option (Reading Contents)
+fault-at (Some e) o = Some (faulty (e .0) (e .1) o)
+fault-at None o = None
+
+-- a refusal of the reader by number, layer and offset; None where memory is wanting
+abbrev pub told-fault : ReadRefusal → Option (Reading Contents)
+told-fault ShortList = Some (declined 76)
+told-fault (Fault e o) = fault-at (placed e) o
