@@ -4,18 +4,21 @@ use mathlib.Core.Bool.{cond}
 use mathlib.Core.List.{List}
 use Prim.Native.Nat.{ℕ, _+_}
 use lib.Dec.{eqb}
-use lib.ListN.{length}
+use lib.ListN.{length, take}
 use Rattle.std.specs.Of.Vec.{vec-items}
 use Rattle.std.specs.declared.option.Option.{Option}
 use Rattle.std.specs.declared.option.Option.the-variants.{Some, None}
 use Rattle.std.specs.declared.result.Result.{Result}
 use Rattle.std.specs.declared.result.Result.the-variants.{Ok, Err}
+use Rattle.model.specs.declared.window.Window.{Window as ModelWindow}
+use Rattle.model.specs.Modules.{Module}
 use Rattle.draft.specs.Drafts.{module-of}
 use Rattle.tape.specs.declared.load.Load.{Load}
 use Rattle.tape.specs.declared.fault.CommandFault.{CommandFault}
 use Rattle.tape.specs.declared.fault.CommandFault.the-variants.{Tape}
 use Rattle.tape.specs.declared.fault.TapeFault.the-variants.{TrailingBytes}
 use Rattle.tape.specs.declared.fault.Layer.{Layer}
+use Rattle.tape.specs.declared.reader.Loaded.{Loaded}
 use Rattle.tape.specs.declared.reader.ReadRefusal.{ReadRefusal}
 use Rattle.tape.specs.declared.reader.ReadRefusal.the-variants.{ShortList, Fault}
 use Rattle.tape.specs.Faults.{placed}
@@ -46,3 +49,7 @@ fault-at None o = None
 abbrev pub told-fault : ReadRefusal → Option (Reading Contents)
 told-fault ShortList = Some (declined 76)
 told-fault (Fault e o) = fault-at (placed e) o
+
+-- what the reader gives: the draft's module, the frame, and the first windows of the list
+abbrev pub given : Module → Loaded → List ModelWindow → Contents
+given m x ws = record { partitions = m; frame = x .frame; windows = take (x .windows) ws }

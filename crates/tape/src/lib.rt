@@ -11,3 +11,4 @@ pub use fault::Layer;
 pub use fault::TapeFault;
 pub use reader::Loaded;
 pub use reader::ReadRefusal;
+pub use reader::read;

@@ -2,7 +2,7 @@
 ghost use mathlib.Core.Path.{_≡_};
 ghost use mathlib.Core.List.{_++_};
 ghost use Prim.Native.Nat.{_<_, _≤_};
-ghost use lib.ListN.{length, drop};
+ghost use lib.ListN.{length, take, drop};
 ghost use Rattle.std.specs.Of.Vec.{vec-items, vec-len};
 ghost use Rattle.std.specs.Results.{Cases};
 ghost use Rattle.std.specs.Vec.{made};
@@ -11,7 +11,7 @@ ghost use Rattle.model.specs.Answers.{Gives};
 ghost use Rattle.draft.specs.Drafts.{module-of};
 ghost use Rattle.tape.specs.Commands.{bytes, encode};
 ghost use Rattle.tape.specs.Faults.{placed, located};
-ghost use Rattle.tape.specs.Loads.{progress, Fails, whole-tape, told-fault};
+ghost use Rattle.tape.specs.Loads.{progress, Fails, whole-tape, told-fault, given};
 ghost use Rattle.tape.specs.Loading.{next, decode, reading, done, contents};
 use crate::command::Command;
 use crate::command::next_command;
@@ -91,4 +91,34 @@ fn load_tape(heap: Global, tape: &[u8]) -> Result<Load, ReadRefusal>
         }
         rest = after;
     }
+}
+
+// What was read goes into the caller's draft and list.
+fn store(load: Load, draft: &mut Draft, windows: &mut [Window]) -> Loaded
+    requires { ⌜ vec-len (load .windows) ≤ 64 ⌝ ∗ ⌜ 64 ≤ length (now windows) ⌝ }
+    ensures answer { λ r. ⌜ contents (progress load) ≡ given (module-of (now (draft .exit))) r (now (windows .exit)) ⌝ }
+    ensures count { λ r. ⌜ r .windows ≤ length (now (windows .exit)) ⌝ }
+    ensures later { λ r. ⌜ drop (r .windows) (now (windows .exit)) ≡ drop (r .windows) (now (windows .entry)) ⌝ }
+{
+    let Load { draft: read, frame, windows: list, turn: _ } = load;
+    let count = list.len();
+    windows[0..count].copy_from_slice(list.as_slice());
+    *draft = read;
+    Loaded { windows: count as u16, frame }
+}
+
+// Reads a tape: 76 first, then the first fault of the tape. A tape without fault replaces what the draft holds and
+// gives the first windows of the list; later windows are unchanged. After a refusal draft and list are as they were.
+pub fn read(heap: Global, tape: &[u8], draft: &mut Draft, windows: &mut [Window]) -> Result<Loaded, ReadRefusal>
+    ensures answer { λ r. ⌜ Cases r (λ x. reading (length (now (windows .entry))) (now (tape .entry)) ≡ done (given (module-of (now (draft .exit))) x (now (windows .exit)))) (λ e. Gives (told-fault e) (reading (length (now (windows .entry))) (now (tape .entry))) (Unit {0})) ⌝ }
+    ensures count { λ r. ⌜ made r (λ x. x .windows ≤ length (now (windows .exit))) ⌝ }
+    ensures later { λ r. ⌜ made r (λ x. drop (x .windows) (now (windows .exit)) ≡ drop (x .windows) (now (windows .entry))) ⌝ }
+    ensures unchanged { λ r. ⌜ Cases r (λ _. Unit {0}) (λ _. (now (draft .exit) ≡ now (draft .entry)) × (now (windows .exit) ≡ now (windows .entry))) ⌝ }
+    ensures again { λ r. ⌜ made r (λ x. encode (module-of (now (draft .exit))) (x .frame) (take (x .windows) (now (windows .exit))) ≡ now (tape .entry)) ⌝ }
+{
+    if windows.len() < 64 {
+        return Err(ReadRefusal::ShortList);
+    }
+    let load = load_tape(heap, tape)?;
+    Ok(store(load, draft, windows))
 }
