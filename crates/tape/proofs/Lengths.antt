@@ -15,12 +15,12 @@ use Rattle.model.specs.Modules.{Module, all-within, partition-within, partition
 use Rattle.tape.specs.declared.command.Command.the-variants.{Partition, Task, Frame, Window, End}
 use Rattle.tape.specs.declared.command.Turn.{Turn}
 use Rattle.tape.specs.declared.command.Turn.the-variants.{Start, AfterPartition, AfterTask, AfterFrame}
-use Rattle.tape.specs.Commands.{bytes, task-command, partition-commands, commands, encode}
+use Rattle.tape.specs.Commands.{bytes, task-command, partition-commands, encode}
 use Rattle.tape.specs.Loading.{Progress}
 use Rattle.tape.proofs.Lists.{joined-append}
 use Rattle.tape.proofs.SoFar.{framed, so-far}
 
--- the bytes of the partitions with their tasks
+-- the bytes of the partitions: one for each, and seven for each task
 abbrev pub partitions-size : Module → ℕ
 partitions-size [] = 0
 partitions-size (ks ∷ m) = 1 + 7 * length ks + partitions-size m
@@ -65,7 +65,7 @@ framed-short AfterPartition f ws = omega arith
 framed-short AfterTask f ws = omega arith
 framed-short AfterFrame f ws = omega (arith, windows-length ws)
 
-module-short : (m : Module) → module-within m ≡ true → partitions-size m ≤ 904
+pub module-short : (m : Module) → module-within m ≡ true → partitions-size m ≤ 904
 module-short m w =
     let both = and-parts (leb (length m) 8) (partitions-within m) w in
     omega (arith, partitions-short m (both .1), leb-true (length m) 8 (both .0))

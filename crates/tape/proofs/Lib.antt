@@ -6,3 +6,4 @@ pub mod Reading
 pub mod SoFar
 pub mod Whole
 pub mod Words
+pub mod Written

@@ -26,6 +26,9 @@ task-command k = Task (k .cost) (k .period) (k .deadline)
 abbrev pub partition-commands : List ModelTask → List Command
 partition-commands ks = Partition ∷ map task-command ks
 
+abbrev pub partition-bytes : List ModelTask → List ℕ
+partition-bytes ks = joined bytes (partition-commands ks)
+
 -- the partitions with their tasks, the frame, the windows, the end
 abbrev pub commands : Module → ℕ → List ModelWindow → List Command
 commands m f ws = joined partition-commands m ++ (Frame f ∷ (map Window ws ++ (End ∷ [])))

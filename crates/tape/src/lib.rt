@@ -3,6 +3,7 @@ mod command;
 mod fault;
 mod load;
 mod reader;
+mod writer;
 
 pub use command::Command;
 pub use command::Turn;

@@ -1,0 +1,127 @@
+// The writer: a draft, its frame and its windows onto a tape, or a refusal, and then the buffer has not changed.
+ghost use mathlib.Core.Path.{_≡_};
+ghost use mathlib.Core.List.{_++_, map};
+ghost use Prim.Native.Nat.{ℕ, _/_, _%_, _≤_};
+ghost use lib.ListN.{length, drop};
+ghost use Rattle.std.specs.Joined.{joined};
+ghost use Rattle.tape.specs.declared.command.Command.{Command};
+ghost use Rattle.draft.specs.Drafts.{module-of};
+ghost use Rattle.tape.specs.Commands.{bytes, task-command, partition-bytes, encode};
+use crate::command::Command;
+use draft::Draft;
+use model::Task;
+use model::Window;
+
+// Writes some bytes at the front, and answers how many.
+fn copy(some: &[u8], out: &mut [u8]) -> usize
+    requires { ⌜ length (now some) ≤ length (now out) ⌝ }
+    ensures count { λ r. ⌜ r ≡ length (now (some .entry)) ⌝ }
+    ensures after { λ _. ⌜ now (out .exit) ≡ now (some .entry) ++ drop (length (now (some .entry))) (now (out .entry)) ⌝ }
+{
+    let count = some.len();
+    out[0..count].copy_from_slice(some);
+    count
+}
+
+fn high(number: u16) -> u8
+    ensures { λ r. ⌜ r ≡ number / 256 ⌝ }
+{
+    (number / 256) as u8
+}
+
+fn low(number: u16) -> u8
+    ensures { λ r. ⌜ r ≡ number % 256 ⌝ }
+{
+    (number % 256) as u8
+}
+
+// Writes a command at the front, and answers how many bytes it has.
+fn put(command: Command, out: &mut [u8]) -> usize
+    requires { ⌜ length (bytes command) ≤ length (now out) ⌝ }
+    ensures count { λ r. ⌜ r ≡ length (bytes command) ⌝ }
+    ensures after { λ r. ⌜ now (out .exit) ≡ bytes command ++ drop r (now (out .entry)) ⌝ }
+{
+    match command {
+        Command::Partition => copy(&[0x50], out),
+        Command::Task { cost, period, deadline } => {
+            copy(&[0x54, high(cost), low(cost), high(period), low(period), high(deadline), low(deadline)], out)
+        }
+        Command::Frame(frame) => copy(&[0x46, high(frame), low(frame)], out),
+        Command::Window(window) => {
+            copy(&[0x57, window.partition, high(window.start), low(window.start), high(window.length), low(window.length)], out)
+        }
+        Command::End => copy(&[0x45], out),
+    }
+}
+
+// What a tape holds one command for.
+trait Commanded {
+    ghost commanded: { Self → Command };
+
+    fn command(&self) -> Command
+        ensures { λ r. ⌜ r ≡ commanded (now (self .entry)) ⌝ };
+}
+
+impl Commanded for Task as TaskCommanded {
+    ghost commanded = { task-command };
+
+    fn command(&self) -> Command {
+        Command::Task { cost: self.cost, period: self.period, deadline: self.deadline }
+    }
+}
+
+impl Commanded for Window as WindowCommanded {
+    ghost commanded = { Command.Window };
+
+    fn command(&self) -> Command {
+        Command::Window(*self)
+    }
+}
+
+// Writes the commands of some items at the front, and answers how many bytes they have.
+fn put_all<T: Commanded>(items: &[T], out: &mut [u8]) -> usize
+    requires { ⌜ length (joined bytes (map commanded (now items))) ≤ length (now out) ⌝ }
+    ensures count { λ r. ⌜ r ≡ length (joined bytes (map commanded (now (items .entry)))) ⌝ }
+    ensures after { λ r. ⌜ now (out .exit) ≡ joined bytes (map commanded (now (items .entry))) ++ drop r (now (out .entry)) ⌝ }
+{
+    let mut at = 0;
+    for item in items {
+        at += put(item.command(), &mut out[at..]);
+    }
+    at
+}
+
+// A partition with its tasks.
+fn put_partition(tasks: &[Task], out: &mut [u8]) -> usize
+    requires { ⌜ length (partition-bytes (now tasks)) ≤ length (now out) ⌝ }
+    ensures count { λ r. ⌜ r ≡ length (partition-bytes (now (tasks .entry))) ⌝ }
+    ensures after { λ r. ⌜ now (out .exit) ≡ partition-bytes (now (tasks .entry)) ++ drop r (now (out .entry)) ⌝ }
+{
+    let at = put(Command::Partition, out);
+    at + put_all(tasks, &mut out[at..])
+}
+
+// All partitions.
+fn put_partitions(draft: &Draft, out: &mut [u8]) -> usize
+    requires { ⌜ length (joined partition-bytes (module-of (now draft))) ≤ length (now out) ⌝ }
+    ensures count { λ r. ⌜ r ≡ length (joined partition-bytes (module-of (now (draft .entry)))) ⌝ }
+    ensures after { λ r. ⌜ now (out .exit) ≡ joined partition-bytes (module-of (now (draft .entry))) ++ drop r (now (out .entry)) ⌝ }
+{
+    let mut at = 0;
+    for partition in 0..draft.partition_count() {
+        at += put_partition(draft.tasks(partition), &mut out[at..]);
+    }
+    at
+}
+
+// How many bytes the tape has.
+fn tape_length(draft: &Draft, windows: &[Window]) -> usize
+    requires { ⌜ length (now windows) ≤ 64 ⌝ }
+    ensures { λ r. ⌜ ((f : ℕ) → r ≡ length (encode (module-of (now (draft .entry))) f (now (windows .entry)))) ⌝ }
+{
+    let mut partitions = 0;
+    for partition in 0..draft.partition_count() {
+        partitions += 1 + 7 * draft.tasks(partition).len();
+    }
+    partitions + (3 + (6 * windows.len() + 1))
+}
