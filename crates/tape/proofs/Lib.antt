@@ -2,6 +2,7 @@ pub mod Commands
 pub mod Lengths
 pub mod Lists
 pub mod Located
+pub mod Plays
 pub mod Reading
 pub mod SoFar
 pub mod Whole
