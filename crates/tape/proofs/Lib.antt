@@ -4,6 +4,7 @@ pub mod Lists
 pub mod Located
 pub mod Plays
 pub mod Reading
+pub mod RoundTrip
 pub mod SoFar
 pub mod Whole
 pub mod Words

@@ -44,7 +44,7 @@ plays-append (c ∷ cs) ds l mid then p q =
 abbrev pub reads : Module → ℕ → List ModelWindow → Turn → Progress
 reads m f ws t = record { partitions = m; frame = f; windows = ws; turn = t }
 
-granted-ok : {A : Type 0} (y : Layer) (a : Answer A) (v : A) (l : Progress) → a ≡ granted v → in-layer y a l ≡ Ok l
+pub granted-ok : {A : Type 0} (y : Layer) (a : Answer A) (v : A) (l : Progress) → a ≡ granted v → in-layer y a l ≡ Ok l
 granted-ok y a v l e = ap (λ a. in-layer y a l) e
 
 -- Tasks go to the newest partition.
@@ -79,15 +79,15 @@ module _ (f : ℕ) (ws : List ModelWindow) where
   new-partition : (m : Module) → length m < 8 → partition-answer m ≡ granted (length m)
   new-partition m h = cond-true (ltb (length m) 8) _ _ (lt-ltb (length m) 8 h)
 
-  abbrev after-partitions : Turn → Module → Turn
+  abbrev pub after-partitions : Turn → Module → Turn
   after-partitions t [] = t
   after-partitions t (ks ∷ m) = after-partitions (after-tasks AfterPartition ks) m
 
-  still-before-all : (t : Turn) (m : Module) → before-frame t ≡ true → before-frame (after-partitions t m) ≡ true
+  pub still-before-all : (t : Turn) (m : Module) → before-frame t ≡ true → before-frame (after-partitions t m) ≡ true
   still-before-all t [] b = b
   still-before-all t (ks ∷ m) b = still-before-all (after-tasks AfterPartition ks) m (still-before AfterPartition ks refl)
 
-  partitions-play : (had m : Module) (t : Turn) → before-frame t ≡ true → length had + length m ≤ 8 → partitions-within m ≡ true → Plays (reads had f ws t) (joined partition-commands m) (reads (had ++ m) f ws (after-partitions t m))
+  pub partitions-play : (had m : Module) (t : Turn) → before-frame t ≡ true → length had + length m ≤ 8 → partitions-within m ≡ true → Plays (reads had f ws t) (joined partition-commands m) (reads (had ++ m) f ws (after-partitions t m))
   partitions-play had [] t b h p = ap (λ m. reads m f ws t) (sym (append-nil had))
   partitions-play had (ks ∷ m) t b h p =
       let both = and-parts (partition-within ks) (partitions-within m) p in
@@ -108,12 +108,12 @@ last-is ws w =
     let k : length ws ≡ length (ws ++ (w ∷ [])) - 1 = omega arith in
     nth-getD (ws ++ (w ∷ [])) (length (ws ++ (w ∷ [])) - 1) w (omega arith) ∙ ap Some (getD-at ws w [] w (length (ws ++ (w ∷ [])) - 1) k)
 
-both-granted : {A B : Type 0} (a : Answer A) (b : Answer B) (v : B) → and-then a b ≡ granted v → ((u : A) × (a ≡ granted u)) × (b ≡ granted v)
+pub both-granted : {A B : Type 0} (a : Answer A) (b : Answer B) (v : B) → and-then a b ≡ granted v → ((u : A) × (a ≡ granted u)) × (b ≡ granted v)
 both-granted (granted u) b v e = ((u, refl), e)
 both-granted (refused n vs) b v e = let z : _≡_ {A = ℕ} 0 1 = cc in absurd (omega arith)
 
 module _ (m : Module) (f : ℕ) where
-  windows-play : (had ws : List ModelWindow) → length had + length ws ≤ 64 → windows-answer overlap f (length had) (last-of had) ws ≡ granted tt → Plays (reads m f had AfterFrame) (map Window ws) (reads m f (had ++ ws) AfterFrame)
+  pub windows-play : (had ws : List ModelWindow) → length had + length ws ≤ 64 → windows-answer overlap f (length had) (last-of had) ws ≡ granted tt → Plays (reads m f had AfterFrame) (map Window ws) (reads m f (had ++ ws) AfterFrame)
   windows-play had [] h a = ap (λ ws. reads m f ws AfterFrame) (sym (append-nil had))
   windows-play had (w ∷ ws) h a =
       let both = both-granted (window-answer overlap f (length had) (last-of had) w) (windows-answer overlap f (length had + 1) (Some w) ws) tt a in

@@ -53,7 +53,7 @@ parts l c rest then (Err k) e = let z : _≡_ {A = ℕ} 0 1 = cc in absurd (omeg
 next-none : (l : Progress) (xs : List ℕ) → length xs ≡ 0 → next l xs ≡ Err (71, Tape)
 next-none l xs h = ap (after-bytes l) (cond-true (eqb (length xs) 0) (Err 71) (in-turn (admits (l .turn) (getD xs 0 0)) (operands xs)) (eq-eqb (length xs) 0 h))
 
-bytes-some : (c : Command) (more : List ℕ) → length more < length (bytes c ++ more)
+pub bytes-some : (c : Command) (more : List ℕ) → length more < length (bytes c ++ more)
 bytes-some Partition more = omega arith
 bytes-some (Task c t d) more = omega arith
 bytes-some (Frame f) more = omega arith

@@ -101,7 +101,7 @@ module _ (m : Module) (f : ℕ) (ws : List ModelWindow) (t : Turn) (o : Orderly 
   adds-window w a = rw (the-frame t f ws a) (simp (map-push, append-assoc))
 
 -- a list that takes one window more has at most 64
-count-kept : {A : Type 0} (n : ℕ) (b : Answer A) (v : A) → and-then (count-answer n) b ≡ granted v → n ≤ 64
+pub count-kept : {A : Type 0} (n : ℕ) (b : Answer A) (v : A) → and-then (count-answer n) b ≡ granted v → n ≤ 64
 count-kept n b v e =
     elim (cases-bool (leb n 64)) [
       inl l ↦ leb-true n 64 l

@@ -3,3 +3,4 @@ pub mod Decode
 pub mod Faults
 pub mod Loading
 pub mod Loads
+pub mod RoundTrip
