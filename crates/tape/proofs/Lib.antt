@@ -1,3 +1,4 @@
+pub mod Again
 pub mod Commands
 pub mod Lengths
 pub mod Lists

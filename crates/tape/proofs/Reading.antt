@@ -33,7 +33,7 @@ use Rattle.tape.proofs.SoFar.{framed, the-frame, so-far, Orderly, Added, obeye
 
 -- A command that was read and obeyed was read, and was obeyed.
 
-Parts : Progress → Command → List ℕ → Progress → Result (Command × List ℕ) ℕ → Type 0
+unfoldable pub Parts : Progress → Command → List ℕ → Progress → Result (Command × List ℕ) ℕ → Type 0
 Parts l c rest then r = (r ≡ Ok (c, rest)) × (obeyed l c ≡ Ok then)
 
 obeyed-part : (c d : Command) (xs ys : List ℕ) (then : Progress) (q : Result Progress (ℕ × Layer)) → after-obeyed c xs q ≡ Ok (d, ys, then) → (c ≡ d) × (xs ≡ ys) × (q ≡ Ok then)
@@ -43,7 +43,7 @@ obeyed-part c d xs ys then (Ok l) e =
     (ap (λ p. p .0) t, ap (λ p. p .1) t, ap (λ p. Ok (p .2)) t)
 obeyed-part c d xs ys then (Err f) e = let z : _≡_ {A = ℕ} 0 1 = cc in absurd (omega arith)
 
-parts : (l : Progress) (c : Command) (rest : List ℕ) (then : Progress) (r : Result (Command × List ℕ) ℕ) → after-bytes l r ≡ Ok (c, rest, then) → Parts l c rest then r
+pub parts : (l : Progress) (c : Command) (rest : List ℕ) (then : Progress) (r : Result (Command × List ℕ) ℕ) → after-bytes l r ≡ Ok (c, rest, then) → Parts l c rest then r
 unfolding Parts
 parts l c rest then (Ok p) e =
     let s = obeyed-part (p .0) c (p .1) rest then (obeyed l (p .0)) e in
