@@ -8,10 +8,12 @@ use borrow.Rule.Slice.PartMut.{putMid}
 use Rattle.std.proofs.shelf.Lists.{append-assoc, append-nil, length-append, take-append-drop, take-at, drop-at, drop-drop, drop-all, take-rest, take-more, length-map, getD-map}
 use Rattle.std.specs.Joined.{joined}
 use Rattle.model.specs.declared.task.Task.{Task}
+use Rattle.model.specs.declared.window.Window.{Window}
 use Rattle.model.specs.Modules.{Module, tasks-of}
 use Rattle.tape.specs.declared.command.Command.{Command}
-use Rattle.tape.specs.Commands.{bytes, partition-bytes}
-use Rattle.tape.proofs.Lists.{joined-append}
+use Rattle.tape.specs.declared.command.Command.the-variants.{Frame, End, Window as window}
+use Rattle.tape.specs.Commands.{bytes, partition-commands, partition-bytes, windows-bytes, encode}
+use Rattle.tape.proofs.Lists.{joined-append, joined-joined}
 
 -- bs stands at the front of a buffer, and from its end on the buffer is as it was
 pub record Written (bs : List ℕ) (end : ℕ) (out was : List ℕ) : Type 0 where
@@ -39,6 +41,10 @@ written-more bs es out was new end n w room count e =
         ∙ sym (append-assoc bs es (drop (end + n) was))));
     }
 
+-- one part is written at the front, and another behind it
+pub two-parts : (es bs out mid new : List ℕ) (n k : ℕ) → n ≤ length mid → n ≡ length es → mid ≡ es ++ drop n out → k ≡ length bs → new ≡ bs ++ drop k (take (length mid - n) (drop n mid)) → Written (es ++ bs) (n + k) (putMid n (length mid - n) mid new) out
+two-parts es bs out mid new n k room count e more f = written-more es bs mid out new n k (record { count = count; after = e }) room more f
+
 -- what has been joined of a list, one element on, is no longer than the whole
 pub joined-on : {X A : Type 0} (f : X → List A) (xs : List X) (i : ℕ) (d : X) → i < length xs → (joined f (take (i + 1) xs) ≡ joined f (take i xs) ++ f (getD xs i d)) × (length (joined f (take i xs)) + length (f (getD xs i d)) ≤ length (joined f xs))
 joined-on f xs i d h =
@@ -65,3 +71,13 @@ partitions-on m p ks h is =
     (λ ks. (joined partition-bytes (take (p + 1) m) ≡ joined partition-bytes (take p m) ++ partition-bytes ks) × (length (joined partition-bytes (take p m)) + length (partition-bytes ks) ≤ length (joined partition-bytes m)))
     (sym is)
     (joined-on partition-bytes m p [] h)
+
+-- the bytes of a tape, part by part
+pub encode-is : (m : Module) (f : ℕ) (ws : List Window) → encode m f ws ≡ joined partition-bytes m ++ (bytes (Frame f) ++ windows-bytes ws)
+encode-is m f ws =
+    joined-append bytes (joined partition-commands m) (Frame f ∷ (map window ws ++ (End ∷ [])))
+    ∙ (ap (λ bs. bs ++ (bytes (Frame f) ++ joined bytes (map window ws ++ (End ∷ [])))) (joined-joined bytes partition-commands m)
+    ∙ ap (λ bs. joined partition-bytes m ++ (bytes (Frame f) ++ bs)) (joined-append bytes (map window ws) (End ∷ [])))
+
+pub encode-lengths : (m : Module) (f : ℕ) (ws : List Window) → length (encode m f ws) ≡ length (joined partition-bytes m) + length (bytes (Frame f) ++ windows-bytes ws)
+encode-lengths m f ws = ap length (encode-is m f ws) ∙ length-append (joined partition-bytes m) (bytes (Frame f) ++ windows-bytes ws)

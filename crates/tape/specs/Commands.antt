@@ -29,6 +29,10 @@ partition-commands ks = Partition ∷ map task-command ks
 abbrev pub partition-bytes : List ModelTask → List ℕ
 partition-bytes ks = joined bytes (partition-commands ks)
 
+-- the windows, followed by the end
+abbrev pub windows-bytes : List ModelWindow → List ℕ
+windows-bytes ws = joined bytes (map Window ws) ++ bytes End
+
 -- the partitions with their tasks, the frame, the windows, the end
 abbrev pub commands : Module → ℕ → List ModelWindow → List Command
 commands m f ws = joined partition-commands m ++ (Frame f ∷ (map Window ws ++ (End ∷ [])))

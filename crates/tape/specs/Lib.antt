@@ -4,3 +4,4 @@ pub mod Faults
 pub mod Loading
 pub mod Loads
 pub mod RoundTrip
+pub mod Writing

@@ -3,6 +3,7 @@ mod command;
 mod fault;
 mod load;
 mod reader;
+mod theorem;
 mod writer;
 
 pub use command::Command;
@@ -13,3 +14,6 @@ pub use fault::TapeFault;
 pub use reader::Loaded;
 pub use reader::ReadRefusal;
 pub use reader::read;
+pub use theorem::round_trip_stands;
+pub use writer::WriteRefusal;
+pub use writer::write;

@@ -2,15 +2,52 @@
 ghost use mathlib.Core.Path.{_≡_};
 ghost use mathlib.Core.List.{_++_, map};
 ghost use Prim.Native.Nat.{ℕ, _/_, _%_, _≤_};
-ghost use lib.ListN.{length, drop};
+ghost use lib.ListN.{length, take, drop};
 ghost use Rattle.std.specs.Joined.{joined};
 ghost use Rattle.tape.specs.declared.command.Command.{Command};
+ghost use Rattle.tape.specs.declared.writer.WriteRefusal.the-variants.{Windows};
+ghost use Rattle.std.specs.Vec.{made};
+ghost use Rattle.model.specs.Answers.{leaves};
 ghost use Rattle.draft.specs.Drafts.{module-of};
-ghost use Rattle.tape.specs.Commands.{bytes, task-command, partition-bytes, encode};
+ghost use Rattle.tape.specs.Commands.{bytes, task-command, partition-bytes, windows-bytes, encode};
+ghost use Rattle.tape.specs.Loading.{decode, done};
+ghost use Rattle.tape.specs.Writing.{write-number, told-write, write-answer};
 use crate::command::Command;
 use draft::Draft;
 use model::Task;
 use model::Window;
+use windows::WindowRefusal;
+use windows::WindowRefusalDebug;
+use windows::WindowRefusalEq;
+use windows::WindowRefusalPartialEq;
+use windows::check_list;
+
+// Why a tape was not written.
+#[derive(Clone, Copy, PartialEq, Eq, Debug)]
+pub enum WriteRefusal {
+    Windows(WindowRefusal),
+    ShortBuffer,
+}
+
+impl WriteRefusal {
+    // The number in the table of refusals.
+    pub fn number(self) -> u8
+        ensures { λ r. ⌜ r ≡ write-number self ⌝ }
+    {
+        match self {
+            WriteRefusal::Windows(refusal) => refusal.number(),
+            WriteRefusal::ShortBuffer => 75,
+        }
+    }
+}
+
+pub impl From<WindowRefusal> for WriteRefusal as WriteRefusalFromWindows {
+    ghost converts = { λ e r. r ≡ Windows e };
+
+    fn from(refusal: WindowRefusal) -> WriteRefusal {
+        WriteRefusal::Windows(refusal)
+    }
+}
 
 // Writes some bytes at the front, and answers how many.
 fn copy(some: &[u8], out: &mut [u8]) -> usize
@@ -124,4 +161,48 @@ fn tape_length(draft: &Draft, windows: &[Window]) -> usize
         partitions += 1 + 7 * draft.tasks(partition).len();
     }
     partitions + (3 + (6 * windows.len() + 1))
+}
+
+// The windows and the end.
+fn put_windows(windows: &[Window], out: &mut [u8]) -> usize
+    requires { ⌜ length (windows-bytes (now windows)) ≤ length (now out) ⌝ }
+    ensures count { λ r. ⌜ r ≡ length (windows-bytes (now (windows .entry))) ⌝ }
+    ensures after { λ r. ⌜ now (out .exit) ≡ windows-bytes (now (windows .entry)) ++ drop r (now (out .entry)) ⌝ }
+{
+    let at = put_all(windows, out);
+    at + put(Command::End, &mut out[at..])
+}
+
+// The frame, the windows and the end.
+fn put_frame(frame: u16, windows: &[Window], out: &mut [u8]) -> usize
+    requires { ⌜ length (bytes (Command.Frame frame) ++ windows-bytes (now windows)) ≤ length (now out) ⌝ }
+    ensures count { λ r. ⌜ r ≡ length (bytes (Command.Frame frame) ++ windows-bytes (now (windows .entry))) ⌝ }
+    ensures after { λ r. ⌜ now (out .exit) ≡ (bytes (Command.Frame frame) ++ windows-bytes (now (windows .entry))) ++ drop r (now (out .entry)) ⌝ }
+{
+    let at = put(Command::Frame(frame), out);
+    at + put_windows(windows, &mut out[at..])
+}
+
+// The whole tape.
+fn put_tape(draft: &Draft, frame: u16, windows: &[Window], out: &mut [u8]) -> usize
+    requires { ⌜ length (encode (module-of (now draft)) frame (now windows)) ≤ length (now out) ⌝ }
+    ensures count { λ r. ⌜ r ≡ length (encode (module-of (now (draft .entry))) frame (now (windows .entry))) ⌝ }
+    ensures after { λ r. ⌜ now (out .exit) ≡ encode (module-of (now (draft .entry))) frame (now (windows .entry)) ++ drop r (now (out .entry)) ⌝ }
+{
+    let at = put_partitions(draft, out);
+    at + put_frame(frame, windows, &mut out[at..])
+}
+
+// Writes the tape of a draft with its frame and windows, and answers how many bytes it has; later bytes are unchanged.
+// Refused with 51 to 54, then 75, and then the buffer is as it was.
+pub fn write(draft: &Draft, frame: u16, windows: &[Window], buffer: &mut [u8]) -> Result<u16, WriteRefusal>
+    ensures answer { λ r. ⌜ told-write r ≡ write-answer (module-of (now (draft .entry))) frame (now (windows .entry)) (length (now (buffer .entry))) ⌝ }
+    ensures after { λ r. ⌜ now (buffer .exit) ≡ leaves (told-write r) (encode (module-of (now (draft .entry))) frame (now (windows .entry)) ++ drop (length (encode (module-of (now (draft .entry))) frame (now (windows .entry)))) (now (buffer .entry))) (now (buffer .entry)) ⌝ }
+    ensures back { λ r. ⌜ made r (λ n. decode (take n (now (buffer .exit))) ≡ done (record { partitions = module-of (now (draft .entry)); frame = frame; windows = now (windows .entry) })) ⌝ }
+{
+    check_list(frame, windows)?;
+    if buffer.len() < tape_length(draft, windows) {
+        return Err(WriteRefusal::ShortBuffer);
+    }
+    Ok(put_tape(draft, frame, windows, buffer) as u16)
 }
