@@ -25,7 +25,7 @@ pub enum Command {
 
 // Where a tape stands, by what came last. A command that may only follow a task would find its place here.
 #[derive(Clone, Copy, PartialEq, Eq, Debug)]
-pub enum Turn {
+pub(crate) enum Turn {
     Start,
     AfterPartition,
     AfterTask,

@@ -1,7 +1,7 @@
 // What can be wrong with a tape: each fault by its layer.
 ghost use mathlib.Core.Path.{_≡_};
 ghost use Rattle.tape.specs.declared.fault.CommandFault.the-variants.{Tape, Windows, NoMemory};
-ghost use Rattle.tape.specs.Faults.{tape-number, from-draft};
+ghost use Rattle.tape.specs.Faults.{tape-number, from-draft, placed};
 use draft::DraftRefusal;
 use draft::DraftRefusalDebug;
 use draft::DraftRefusalEq;
@@ -50,6 +50,23 @@ pub enum CommandFault {
     Draft(DraftRefusal),
     Windows(WindowRefusal),
     NoMemory,
+}
+
+impl CommandFault {
+    // The fault's number and layer; none where memory is wanting.
+    pub fn placed(self) -> Option<(u8, Layer)>
+        ensures { λ r. ⌜ r ≡ placed self ⌝ }
+    {
+        match self {
+            CommandFault::Tape(fault) => Some((fault.number(), Layer::Tape)),
+            CommandFault::Draft(refusal) => match refusal.number() {
+                Some(number) => Some((number, Layer::Draft)),
+                None => None,
+            },
+            CommandFault::Windows(refusal) => Some((refusal.number(), Layer::Windows)),
+            CommandFault::NoMemory => None,
+        }
+    }
 }
 
 pub impl From<TapeFault> for CommandFault as CommandFaultFromTape {

@@ -9,10 +9,13 @@ ghost use Rattle.tape.specs.declared.writer.WriteRefusal.the-variants.{Windows
 ghost use Rattle.std.specs.Vec.{made};
 ghost use Rattle.model.specs.Answers.{leaves};
 ghost use Rattle.draft.specs.Drafts.{module-of};
-ghost use Rattle.tape.specs.Commands.{bytes, task-command, partition-bytes, windows-bytes, encode};
+ghost use Rattle.tape.specs.Commands.{bytes, partition-bytes, windows-bytes, encode};
 ghost use Rattle.tape.specs.Loading.{decode, done};
 ghost use Rattle.tape.specs.Writing.{write-number, told-write, write-answer};
 use crate::command::Command;
+use crate::commanded::Commanded;
+use crate::commanded::TaskCommanded;
+use crate::commanded::WindowCommanded;
 use draft::Draft;
 use model::Task;
 use model::Window;
@@ -88,30 +91,6 @@ fn put(command: Command, out: &mut [u8]) -> usize
             copy(&[0x57, window.partition, high(window.start), low(window.start), high(window.length), low(window.length)], out)
         }
         Command::End => copy(&[0x45], out),
-    }
-}
-
-// What a tape holds one command for.
-trait Commanded {
-    ghost commanded: { Self → Command };
-
-    fn command(&self) -> Command
-        ensures { λ r. ⌜ r ≡ commanded (now (self .entry)) ⌝ };
-}
-
-impl Commanded for Task as TaskCommanded {
-    ghost commanded = { task-command };
-
-    fn command(&self) -> Command {
-        Command::Task { cost: self.cost, period: self.period, deadline: self.deadline }
-    }
-}
-
-impl Commanded for Window as WindowCommanded {
-    ghost commanded = { Command.Window };
-
-    fn command(&self) -> Command {
-        Command::Window(*self)
     }
 }
 
