@@ -1,16 +1,14 @@
 -- The front of a buffer, written command by command.
-use mathlib.Core.Path.{_≡_, refl, sym, ap, subst, _∙_}
+use mathlib.Core.Path.{_≡_, refl, sym, ap, _∙_}
 use mathlib.Core.List.{List, [], _∷_, _++_, map}
-use Prim.Native.Nat.{ℕ, _+_, _-_, _<_, _≤_}
+use Prim.Native.Nat.{ℕ, _+_, _-_, _≤_}
 use native.Mathlib.Omega.{arith}
-use lib.ListN.{length, getD, take, drop}
+use lib.ListN.{length, take, drop}
 use borrow.Rule.Slice.PartMut.{putMid}
-use Rattle.std.proofs.shelf.Lists.{append-assoc, append-nil, length-append, take-append-drop, take-at, drop-at, drop-drop, drop-all, take-rest, take-more, length-map, getD-map}
+use Rattle.std.proofs.shelf.Lists.{append-assoc, append-nil, length-append, take-at, drop-at, drop-drop, drop-all, take-rest}
 use Rattle.std.specs.Joined.{joined}
-use Rattle.model.specs.declared.task.Task.{Task}
 use Rattle.model.specs.declared.window.Window.{Window}
-use Rattle.model.specs.Modules.{Module, tasks-of}
-use Rattle.tape.specs.declared.command.Command.{Command}
+use Rattle.model.specs.Modules.{Module}
 use Rattle.tape.specs.declared.command.Command.the-variants.{Frame, End, Window as window}
 use Rattle.tape.specs.Commands.{bytes, partition-commands, partition-bytes, windows-bytes, encode}
 use Rattle.tape.proofs.Lists.{joined-append, joined-joined}
@@ -44,33 +42,6 @@ written-more bs es out was new end n w room count e =
 -- one part is written at the front, and another behind it
 pub two-parts : (es bs out mid new : List ℕ) (n k : ℕ) → n ≤ length mid → n ≡ length es → mid ≡ es ++ drop n out → k ≡ length bs → new ≡ bs ++ drop k (take (length mid - n) (drop n mid)) → Written (es ++ bs) (n + k) (putMid n (length mid - n) mid new) out
 two-parts es bs out mid new n k room count e more f = written-more es bs mid out new n k (record { count = count; after = e }) room more f
-
--- what has been joined of a list, one element on, is no longer than the whole
-pub joined-on : {X A : Type 0} (f : X → List A) (xs : List X) (i : ℕ) (d : X) → i < length xs → (joined f (take (i + 1) xs) ≡ joined f (take i xs) ++ f (getD xs i d)) × (length (joined f (take i xs)) + length (f (getD xs i d)) ≤ length (joined f xs))
-joined-on f xs i d h =
-    let on : joined f (take (i + 1) xs) ≡ joined f (take i xs) ++ f (getD xs i d) =
-        ap (joined f) (take-more xs i d h) ∙ (joined-append f (take i xs) (getD xs i d ∷ []) ∙ ap (λ ys. joined f (take i xs) ++ ys) (append-nil (f (getD xs i d))))
-    in
-    let whole = joined-append f (take (i + 1) xs) (drop (i + 1) xs) in
-    (on, omega (arith, ap length on, length-append (joined f (take i xs)) (f (getD xs i d)), ap (λ ys. length (joined f ys)) (take-append-drop (i + 1) xs), ap length whole, length-append (joined f (take (i + 1) xs)) (joined f (drop (i + 1) xs))))
-
--- the same of the commands of some items
-pub commands-on : {X : Type 0} (f : X → Command) (xs : List X) (i : ℕ) (x : X) → i < length xs → x ≡ getD xs i x → (joined bytes (take (i + 1) (map f xs)) ≡ joined bytes (take i (map f xs)) ++ bytes (f x)) × (length (joined bytes (take i (map f xs))) + length (bytes (f x)) ≤ length (joined bytes (map f xs)))
-commands-on f xs i x h is =
-    let long : i < length (map f xs) = simp length-map h in
-    let here : getD (map f xs) i (f x) ≡ f x = getD-map f xs i x (f x) h ∙ ap f (sym is) in
-    subst
-    (λ c. (joined bytes (take (i + 1) (map f xs)) ≡ joined bytes (take i (map f xs)) ++ bytes c) × (length (joined bytes (take i (map f xs))) + length (bytes c) ≤ length (joined bytes (map f xs))))
-    here
-    (joined-on bytes (map f xs) i (f x) long)
-
--- the same of the partitions of a module
-pub partitions-on : (m : Module) (p : ℕ) (ks : List Task) → p < length m → ks ≡ tasks-of m p → (joined partition-bytes (take (p + 1) m) ≡ joined partition-bytes (take p m) ++ partition-bytes ks) × (length (joined partition-bytes (take p m)) + length (partition-bytes ks) ≤ length (joined partition-bytes m))
-partitions-on m p ks h is =
-    subst
-    (λ ks. (joined partition-bytes (take (p + 1) m) ≡ joined partition-bytes (take p m) ++ partition-bytes ks) × (length (joined partition-bytes (take p m)) + length (partition-bytes ks) ≤ length (joined partition-bytes m)))
-    (sym is)
-    (joined-on partition-bytes m p [] h)
 
 -- the bytes of a tape, part by part
 pub encode-is : (m : Module) (f : ℕ) (ws : List Window) → encode m f ws ≡ joined partition-bytes m ++ (bytes (Frame f) ++ windows-bytes ws)
