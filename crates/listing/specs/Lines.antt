@@ -31,6 +31,10 @@ layer-name Tape = codes "tape"
 layer-name Draft = codes "draft"
 layer-name Windows = codes "windows"
 
+-- a number alone
+abbrev pub number-line : ℕ → List ℕ
+number-line n = codes "refused " ++ (decimal n ++ codes "\n")
+
 -- a fault: its number, layer and byte offset
 abbrev pub fault-line : ℕ → Layer → ℕ → List ℕ
 fault-line n y o = codes "refused " ++ (decimal n ++ (codes " " ++ (layer-name y ++ (codes " " ++ (decimal o ++ codes "\n")))))
@@ -39,7 +43,7 @@ fault-line n y o = codes "refused " ++ (decimal n ++ (codes " " ++ (layer-name y
 abbrev pub listed : Reading Contents → List ℕ
 listed (done t) = joined line (commands (t .partitions) (t .frame) (t .windows))
 listed (faulty n y o) = fault-line n y o
-listed (declined n) = codes "refused " ++ (decimal n ++ codes "\n")
+listed (declined n) = number-line n
 
 -- the text of a refusal; memory that is wanting gives none
 abbrev pub listed-if : Option (Reading Contents) → List ℕ → Type 0

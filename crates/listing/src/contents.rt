@@ -10,7 +10,8 @@ ghost use Rattle.tape.specs.Loading.{decode};
 ghost use Rattle.tape.specs.Loads.{told-fault};
 ghost use Rattle.listing.specs.Lines.{line, listed, listed-if};
 use crate::line::command_line;
-use crate::line::refusal_line;
+use crate::line::fault_line;
+use crate::line::number_line;
 use draft::Draft;
 use model::Window;
 use std::alloc::AllocError;
@@ -65,9 +66,9 @@ fn refusal(heap: Global, refusal: ReadRefusal) -> Result<String, AllocError>
     ensures { λ r. ⌜ made r (λ s. listed-if (told-fault refusal) (string-bytes s)) ⌝ }
 {
     match refusal {
-        ReadRefusal::ShortList => String::from_str(heap, "refused 76\n"),
+        ReadRefusal::ShortList => number_line(heap, 76),
         ReadRefusal::Fault { fault, offset } => match fault.placed() {
-            Some((number, layer)) => refusal_line(heap, number, layer, offset),
+            Some((number, layer)) => fault_line(heap, number, layer, offset),
             None => Err(AllocError),
         },
     }

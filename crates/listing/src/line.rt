@@ -2,7 +2,7 @@
 ghost use mathlib.Core.Path.{_≡_};
 ghost use Rattle.std.specs.Of.String.{string-bytes};
 ghost use Rattle.std.specs.Vec.{made};
-ghost use Rattle.listing.specs.Lines.{line, layer-name, fault-line};
+ghost use Rattle.listing.specs.Lines.{line, layer-name, number-line, fault-line};
 use std::alloc::AllocError;
 use std::alloc::Global;
 use tape::Command;
@@ -34,8 +34,15 @@ fn layer_name(layer: Layer) -> &'static str
     }
 }
 
+// The line of a refusal that is a number alone.
+pub(crate) fn number_line(heap: Global, number: u8) -> Result<String, AllocError>
+    ensures { λ r. ⌜ made r (λ s. string-bytes s ≡ number-line number) ⌝ }
+{
+    format!(heap, "refused {number}\n")
+}
+
 // The line of a fault.
-pub(crate) fn refusal_line(heap: Global, number: u8, layer: Layer, offset: u16) -> Result<String, AllocError>
+pub(crate) fn fault_line(heap: Global, number: u8, layer: Layer, offset: u16) -> Result<String, AllocError>
     ensures { λ r. ⌜ made r (λ s. string-bytes s ≡ fault-line number layer offset) ⌝ }
 {
     let name = layer_name(layer);
