@@ -34,8 +34,8 @@ all-within-pushed false ks k a w = a
 pub within-limits-of : (c t d : ℕ) (k : Task) → Some k ≡ task-within c t d → within-limits k ≡ true
 within-limits-of c t d k e =
     elim (cases-bool (within-limits (task c t d))) [
-      inl w ↦ let same : k ≡ task c t d = cc (e, cond-true (within-limits (task c t d)) (Some (task c t d)) None w) in ap within-limits same ∙ w
-    | inr w ↦ let z : _≡_ {A = ℕ} 0 1 = cc (e, cond-false (within-limits (task c t d)) (Some (task c t d)) None w) in absurd (omega arith)
+      | inl w ↦ let same : k ≡ task c t d = cc (e, cond-true (within-limits (task c t d)) (Some (task c t d)) None w) in ap within-limits same ∙ w
+      | inr w ↦ let z : _≡_ {A = ℕ} 0 1 = cc (e, cond-false (within-limits (task c t d)) (Some (task c t d)) None w) in absurd (omega arith)
     ]
 
 pub module-length : (d : Draft) → length (module-of d) ≡ vec-len (d .partitions)

@@ -52,7 +52,12 @@ fn push_partitions(heap: Global, text: &mut String, draft: &Draft) -> Result<(),
 }
 
 // All commands of a tape.
-fn contents(heap: Global, draft: &Draft, frame: u16, windows: &[Window]) -> Result<String, AllocError>
+fn contents(
+    heap: Global,
+    draft: &Draft,
+    frame: u16,
+    windows: &[Window],
+) -> Result<String, AllocError>
     ensures { λ r. ⌜ made r (λ s. string-bytes s ≡ joined line (commands (module-of (now (draft .entry))) frame (now (windows .entry)))) ⌝ }
 {
     let mut text = String::new(heap);
@@ -79,9 +84,18 @@ pub fn listing(heap: Global, tape: &[u8]) -> Result<String, AllocError>
     ensures { λ r. ⌜ made r (λ s. string-bytes s ≡ listed (decode (now (tape .entry)))) ⌝ }
 {
     let mut draft = Draft::new(heap);
-    let mut windows = [Window { partition: 0, start: 0, length: 0 }; 64];
+    let mut windows = [Window {
+        partition: 0,
+        start: 0,
+        length: 0,
+    }; 64];
     match read(heap, tape, &mut draft, &mut windows) {
-        Ok(loaded) => contents(heap, &draft, loaded.frame, &windows[0..loaded.windows as usize]),
+        Ok(loaded) => contents(
+            heap,
+            &draft,
+            loaded.frame,
+            &windows[0..loaded.windows as usize],
+        ),
         Err(refused) => refusal(heap, refused),
     }
 }

@@ -14,7 +14,11 @@ pub(crate) fn command_line(heap: Global, command: Command) -> Result<String, All
 {
     match command {
         Command::Partition => String::from_str(heap, "partition\n"),
-        Command::Task { cost, period, deadline } => format!(heap, "task {cost} {period} {deadline}\n"),
+        Command::Task {
+            cost,
+            period,
+            deadline,
+        } => format!(heap, "task {cost} {period} {deadline}\n"),
         Command::Frame(frame) => format!(heap, "frame {frame}\n"),
         Command::Window(window) => {
             let (partition, start, length) = (window.partition, window.start, window.length);
@@ -42,7 +46,12 @@ pub(crate) fn number_line(heap: Global, number: u8) -> Result<String, AllocError
 }
 
 // The line of a fault.
-pub(crate) fn fault_line(heap: Global, number: u8, layer: Layer, offset: u16) -> Result<String, AllocError>
+pub(crate) fn fault_line(
+    heap: Global,
+    number: u8,
+    layer: Layer,
+    offset: u16,
+) -> Result<String, AllocError>
     ensures { λ r. ⌜ made r (λ s. string-bytes s ≡ fault-line number layer offset) ⌝ }
 {
     let name = layer_name(layer);

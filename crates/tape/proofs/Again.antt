@@ -30,9 +30,9 @@ module _ (xs : List ℕ) (fits : Bytes xs) (c : Command) (rest : List ℕ) where
   whole-there n d there =
       cond-both (leb n (length xs)) _ _ (λ r. r ≡ Ok (c, rest) → xs ≡ bytes c ++ rest)
       (λ l e.
-        let Read : Type 0 = Command × List ℕ in
-        let t : _≡_ {A = Read} (d, drop n xs) (c, rest) = cc in
-        there (leb-true n (length xs) l) ∙ ap (λ p. bytes (p .0) ++ p .1) t)
+      let Read : Type 0 = Command × List ℕ in
+      let t : _≡_ {A = Read} (d, drop n xs) (c, rest) = cc in
+      there (leb-true n (length xs) l) ∙ ap (λ p. bytes (p .0) ++ p .1) t)
       (λ l e. let z : _≡_ {A = ℕ} 0 1 = cc in absurd (omega arith))
 
   operands-there : operands xs ≡ Ok (c, rest) → xs ≡ bytes c ++ rest
@@ -77,8 +77,8 @@ module _ (tape : List ℕ) (t : Contents) where
       at-end end =
           cond-both (eqb (length rest) 0) _ _ (λ d. d ≡ done t → encode (t .partitions) (t .frame) (t .windows) ≡ tape)
           (λ none e.
-            let same : contents then ≡ t = cc in
-            subst (λ t. encode (t .partitions) (t .frame) (t .windows) ≡ tape) same (standing-again tape l xs at c rest then front r end (eqb-true (length rest) 0 none) .0))
+          let same : contents then ≡ t = cc in
+          subst (λ t. encode (t .partitions) (t .frame) (t .windows) ≡ tape) same (standing-again tape l xs at c rest then front r end (eqb-true (length rest) 0 none) .0))
           (λ some e. let z : _≡_ {A = ℕ} 0 1 = cc in absurd (omega arith))
 
     by-next : (most : ℕ) → ((then : Progress) (rest : List ℕ) → Standing tape then rest → Bytes rest → decode-from most (length tape) then rest ≡ done t → Holds) → (r : Result (Command × List ℕ × Progress) (ℕ × Layer)) → next l xs ≡ r → after-next (length tape - length xs) r (λ c rest then. cond (is-end c) (ended (length tape) then rest) (decode-from most (length tape) then rest)) ≡ done t → Holds
@@ -88,8 +88,8 @@ module _ (tape : List ℕ) (t : Contents) where
         let rest = p .1 in
         let then = p .2 in
         elim (cases-bool (is-end c)) [
-          inl end ↦ at-end c rest then q end (sym (cond-true (is-end c) _ _ end) ∙ d)
-        | inr on ↦ go then rest (standing-next tape l xs at c rest then (front c rest then q) q on) (bytes-after xs fits c rest (front c rest then q)) (sym (cond-false (is-end c) _ _ on) ∙ d)
+          | inl end ↦ at-end c rest then q end (sym (cond-true (is-end c) _ _ end) ∙ d)
+          | inr on ↦ go then rest (standing-next tape l xs at c rest then (front c rest then q) q on) (bytes-after xs fits c rest (front c rest then q)) (sym (cond-false (is-end c) _ _ on) ∙ d)
         ]
 
   again-from : (most : ℕ) (l : Progress) (xs : List ℕ) → Standing tape l xs → Bytes xs → decode-from most (length tape) l xs ≡ done t → Holds

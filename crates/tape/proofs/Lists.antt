@@ -29,11 +29,11 @@ pub joined-on : {X A : Type 0} (f : X → List A) (xs : List X) (i : ℕ) (x d :
 joined-on f xs i x d h is =
     let y = getD xs i d in
     let more : joined f (take (i + 1) xs) ≡ joined f (take i xs) ++ f y =
-        ap (joined f) (take-more xs i d h) ∙ (joined-append f (take i xs) (y ∷ []) ∙ ap (λ ys. joined f (take i xs) ++ ys) (append-nil (f y)))
+    ap (joined f) (take-more xs i d h) ∙ (joined-append f (take i xs) (y ∷ []) ∙ ap (λ ys. joined f (take i xs) ++ ys) (append-nil (f y)))
     in
     let whole = joined-append f (take (i + 1) xs) (drop (i + 1) xs) in
     let room : length (joined f (take i xs)) + length (f y) ≤ length (joined f xs) =
-        omega (arith, ap length more, length-append (joined f (take i xs)) (f y), ap (λ ys. length (joined f ys)) (take-append-drop (i + 1) xs), ap length whole, length-append (joined f (take (i + 1) xs)) (joined f (drop (i + 1) xs)))
+    omega (arith, ap length more, length-append (joined f (take i xs)) (f y), ap (λ ys. length (joined f ys)) (take-append-drop (i + 1) xs), ap length whole, length-append (joined f (take (i + 1) xs)) (joined f (drop (i + 1) xs)))
     in
     subst (On f xs i) (sym is) (record { more = more; room = room })
 

@@ -67,10 +67,15 @@ module _ (f : ℕ) (ws : List ModelWindow) where
   tasks-play m ds (k ∷ ks) t i h a =
       let both = and-parts (within-limits k) (all-within ks) a in
       let done = newest-answer m ds k (omega arith) (both .0) in
-      let rest = tasks-play m (ds ++ (k ∷ [])) ks AfterTask refl (omega (arith, length-append ds (k ∷ []))) (both .1) in
-      (i, refl, (reads (m ++ ((ds ++ (k ∷ [])) ∷ [])) f ws AfterTask,
-      granted-ok Draft _ _ _ done ∙ ap (λ p. Ok (reads p f ws AfterTask)) (with-newest m ds k),
-      subst (λ all. Plays (reads (m ++ ((ds ++ (k ∷ [])) ∷ [])) f ws AfterTask) (map task-command ks) (reads (m ++ (all ∷ [])) f ws (after-tasks AfterTask ks))) (append-assoc ds (k ∷ []) ks) rest))
+      let rest = tasks-play m (ds ++ (k ∷ [])) ks AfterTask refl (omega (arith, length-append ds (k ∷ []))) (both .1) in (
+        i,
+        refl,
+        (
+          reads (m ++ ((ds ++ (k ∷ [])) ∷ [])) f ws AfterTask,
+          granted-ok Draft _ _ _ done ∙ ap (λ p. Ok (reads p f ws AfterTask)) (with-newest m ds k),
+          subst (λ all. Plays (reads (m ++ ((ds ++ (k ∷ [])) ∷ [])) f ws AfterTask) (map task-command ks) (reads (m ++ (all ∷ [])) f ws (after-tasks AfterTask ks))) (append-assoc ds (k ∷ []) ks) rest,
+        ),
+      )
 
   still-before : (t : Turn) (ks : List ModelTask) → before-frame t ≡ true → before-frame (after-tasks t ks) ≡ true
   still-before t [] b = b
@@ -95,7 +100,7 @@ module _ (f : ℕ) (ws : List ModelWindow) where
       let tasks = tasks-play had [] ks AfterPartition refl (omega (arith, leb-true (length ks) 16 (own .0))) (own .1) in
       let rest = partitions-play (had ++ (ks ∷ [])) m (after-tasks AfterPartition ks) (still-before AfterPartition ks refl) (omega (arith, length-append had (ks ∷ []))) (both .1) in
       let one : Plays (reads had f ws t) (partition-commands ks) (reads (had ++ (ks ∷ [])) f ws (after-tasks AfterPartition ks)) =
-          (b, refl, (reads (with-partition had) f ws AfterPartition, granted-ok Draft _ _ _ (new-partition had (omega arith)), tasks))
+      (b, refl, (reads (with-partition had) f ws AfterPartition, granted-ok Draft _ _ _ (new-partition had (omega arith)), tasks))
       in
       plays-append (partition-commands ks) (joined partition-commands m) (reads had f ws t) _ _ one
       (subst (λ all. Plays (reads (had ++ (ks ∷ [])) f ws (after-tasks AfterPartition ks)) (joined partition-commands m) (reads all f ws (after-partitions (after-tasks AfterPartition ks) m))) (append-assoc had (ks ∷ []) m) rest)
@@ -120,9 +125,14 @@ module _ (m : Module) (f : ℕ) where
       let count : count-answer (length had + 1) ≡ granted tt = cond-true (leb (length had + 1) 64) _ _ (le-leb (length had + 1) 64 (omega arith)) in
       let n : length had + 1 ≡ length (had ++ (w ∷ [])) = sym (length-append had (w ∷ [])) in
       let here : windows-answer overlap f (length (had ++ (w ∷ []))) (last-of (had ++ (w ∷ []))) ws ≡ granted tt =
-          ap (λ v. windows-answer overlap f (length (had ++ (w ∷ []))) v ws) (last-is had w) ∙ (ap (λ i. windows-answer overlap f i (Some w) ws) (sym n) ∙ both .1)
+      ap (λ v. windows-answer overlap f (length (had ++ (w ∷ []))) v ws) (last-is had w) ∙ (ap (λ i. windows-answer overlap f i (Some w) ws) (sym n) ∙ both .1)
       in
-      let rest = windows-play (had ++ (w ∷ [])) ws (omega arith) here in
-      (refl, refl, (reads m f (had ++ (w ∷ [])) AfterFrame,
-      granted-ok Windows _ _ _ (ap (λ a. and-then a (window-answer overlap f (length had) (last-of had) w)) count ∙ both .0 .1),
-      subst (λ all. Plays (reads m f (had ++ (w ∷ [])) AfterFrame) (map Window ws) (reads m f all AfterFrame)) (append-assoc had (w ∷ []) ws) rest))
+      let rest = windows-play (had ++ (w ∷ [])) ws (omega arith) here in (
+        refl,
+        refl,
+        (
+          reads m f (had ++ (w ∷ [])) AfterFrame,
+          granted-ok Windows _ _ _ (ap (λ a. and-then a (window-answer overlap f (length had) (last-of had) w)) count ∙ both .0 .1),
+          subst (λ all. Plays (reads m f (had ++ (w ∷ [])) AfterFrame) (map Window ws) (reads m f all AfterFrame)) (append-assoc had (w ∷ []) ws) rest,
+        ),
+      )

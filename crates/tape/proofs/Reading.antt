@@ -155,8 +155,8 @@ module _ (tape : List ℕ) (l : Progress) (xs : List ℕ) (at : Standing tape l 
         let o : Ok l ≡ Ok then = ap (obeyed l) (sym i) ∙ carried-out in
         let s : l ≡ then = cc in
         let t : tape ≡ encode (l .partitions) (l .frame) (l .windows) =
-            at .split ∙ (ap (λ ys. joined bytes (so-far l) ++ ys) (e ∙ (ap (λ c. bytes c ++ rest) i ∙ ap (λ ys. 0x45 ∷ ys) (none-left rest none)))
-            ∙ (sym (one-more-byte (so-far l) End []) ∙ (append-nil (joined bytes (so-far l ++ (End ∷ []))) ∙ ap (joined bytes) (sym (all-commands (l .partitions) (l .frame) (l .windows) (l .turn) f)))))
+        at .split ∙ (ap (λ ys. joined bytes (so-far l) ++ ys) (e ∙ (ap (λ c. bytes c ++ rest) i ∙ ap (λ ys. 0x45 ∷ ys) (none-left rest none)))
+        ∙ (sym (one-more-byte (so-far l) End []) ∙ (append-nil (joined bytes (so-far l ++ (End ∷ []))) ∙ ap (joined bytes) (sym (all-commands (l .partitions) (l .frame) (l .windows) (l .turn) f)))))
         in
         subst (λ p. (encode (p .partitions) (p .frame) (p .windows) ≡ tape) × (length (p .windows) ≤ 64)) s (sym t, at .few)
 

@@ -104,12 +104,12 @@ module _ (m : Module) (f : ℕ) (ws : List ModelWindow) (t : Turn) (o : Orderly 
 pub count-kept : {A : Type 0} (n : ℕ) (b : Answer A) (v : A) → and-then (count-answer n) b ≡ granted v → n ≤ 64
 count-kept n b v e =
     elim (cases-bool (leb n 64)) [
-      inl l ↦ leb-true n 64 l
-    | inr l ↦
-      let q : count-answer n ≡ refused 52 [] = cond-false _ _ _ l in
-      let c : and-then (count-answer n) b ≡ refused 52 [] = ap (λ a. and-then a b) q in
-      let z : _≡_ {A = ℕ} 0 1 = cc in
-      absurd (omega arith)
+      | inl l ↦ leb-true n 64 l
+      | inr l ↦
+          let q : count-answer n ≡ refused 52 [] = cond-false _ _ _ l in
+          let c : and-then (count-answer n) b ≡ refused 52 [] = ap (λ a. and-then a b) q in
+          let z : _≡_ {A = ℕ} 0 1 = cc in
+          absurd (omega arith)
     ]
 
 with-partition-some : (m : Module) → 0 < length (with-partition m)

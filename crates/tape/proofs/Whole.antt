@@ -33,7 +33,7 @@ abbrev Loads : List ℕ → Result Load ReadRefusal → Type 0
 Loads tape r = record {
   answer : Cases r (λ l. decode tape ≡ done (contents (progress l))) (λ e. Gives (told-fault e) (decode tape) (Unit {0}));
   again : made r (λ l. encode (module-of (l .draft)) (l .frame) (vec-items (l .windows)) ≡ tape);
-  few : made r (λ l. vec-len (l .windows) ≤ 64)
+  few : made r (λ l. vec-len (l .windows) ≤ 64);
 }
 
 module _ (tape : List ℕ) (l : Progress) (xs : List ℕ) (at : Standing tape l xs) (c : Command) (rest : List ℕ) (load : Load) (e : xs ≡ bytes c ++ rest) (r : next l xs ≡ Ok (c, rest, progress load)) (i : c ≡ End) (w : module-within (l .partitions) ≡ true) where
@@ -49,7 +49,7 @@ module _ (tape : List ℕ) (l : Progress) (xs : List ℕ) (at : Standing tape l 
       record {
         answer = standing-end tape l xs at c rest (progress load) e r end ∙ cond-true (eqb (length rest) 0) _ _ none;
         again = again .0;
-        few = omega (arith, again .1, load .windows .ok .0)
+        few = omega (arith, again .1, load .windows .ok .0);
       }
 
   bytes-follow : eqb (length rest) 0 ≡ false → Loads tape (Err (Fault (Tape TrailingBytes) (length tape - length xs + 1)))
@@ -59,7 +59,7 @@ module _ (tape : List ℕ) (l : Progress) (xs : List ℕ) (at : Standing tape l 
       record {
         answer = ap (faulty 74 layer.Tape) here ∙ sym (standing-end tape l xs at c rest (progress load) e r end ∙ cond-false (eqb (length rest) 0) _ _ some);
         again = tt;
-        few = tt
+        few = tt;
       }
 
   pub loaded-at-end : Loads tape (whole-tape (length tape - length xs) load rest)

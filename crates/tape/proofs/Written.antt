@@ -27,16 +27,16 @@ written-more bs es out was new end n w room count e =
     let front : take end out ≡ bs = ap (take end) (w .after) ∙ take-at bs (drop end was) end (sym (w .count)) in
     let back : drop end out ≡ drop end was = ap (drop end) (w .after) ∙ drop-at bs (drop end was) end (sym (w .count)) in
     let new-is : new ≡ es ++ drop (end + n) was =
-        e ∙ (ap (λ z. es ++ drop n z) (take-rest out end ∙ back) ∙ ap (λ z. es ++ z) (drop-drop n end was))
+    e ∙ (ap (λ z. es ++ drop n z) (take-rest out end ∙ back) ∙ ap (λ z. es ++ z) (drop-drop n end was))
     in
     let none : drop (length out - end) (drop end out) ≡ [] = drop-drop (length out - end) end out ∙ drop-all (end + (length out - end)) out (omega arith) in
     record {
       count = omega (arith, w .count, length-append bs es);
       after =
-        ap (λ z. z ++ (new ++ drop (length out - end) (drop end out))) front
-        ∙ (ap (λ z. bs ++ (new ++ z)) none
-        ∙ (ap (λ z. bs ++ z) (append-nil new ∙ new-is)
-        ∙ sym (append-assoc bs es (drop (end + n) was))));
+          ap (λ z. z ++ (new ++ drop (length out - end) (drop end out))) front
+          ∙ (ap (λ z. bs ++ (new ++ z)) none
+          ∙ (ap (λ z. bs ++ z) (append-nil new ∙ new-is)
+          ∙ sym (append-assoc bs es (drop (end + n) was))));
     }
 
 -- one part is written at the front, and another behind it

@@ -17,7 +17,11 @@ use model::WindowPartialEq;
 #[derive(Clone, Copy, PartialEq, Eq, Debug)]
 pub enum Command {
     Partition,
-    Task { cost: u16, period: u16, deadline: u16 },
+    Task {
+        cost: u16,
+        period: u16,
+        deadline: u16,
+    },
     Frame(u16),
     Window(Window),
     End,
@@ -61,11 +65,22 @@ fn operands(tape: &[u8]) -> Result<(Command, &[u8]), TapeFault>
         [0x50, rest @ ..] => Ok((Command::Partition, rest)),
         [0x54, c1, c0, t1, t0, d1, d0, rest @ ..] => {
             let (cost, period, deadline) = (word(*c1, *c0), word(*t1, *t0), word(*d1, *d0));
-            Ok((Command::Task { cost, period, deadline }, rest))
+            Ok((
+                Command::Task {
+                    cost,
+                    period,
+                    deadline,
+                },
+                rest,
+            ))
         }
         [0x46, f1, f0, rest @ ..] => Ok((Command::Frame(word(*f1, *f0)), rest)),
         [0x57, p, s1, s0, l1, l0, rest @ ..] => {
-            let window = Window { partition: *p, start: word(*s1, *s0), length: word(*l1, *l0) };
+            let window = Window {
+                partition: *p,
+                start: word(*s1, *s0),
+                length: word(*l1, *l0),
+            };
             Ok((Command::Window(window), rest))
         }
         [0x45, rest @ ..] => Ok((Command::End, rest)),

@@ -19,7 +19,11 @@ pub impl Commanded for Task as TaskCommanded {
     ghost commanded = { task-command };
 
     fn command(&self) -> Command {
-        Command::Task { cost: self.cost, period: self.period, deadline: self.deadline }
+        Command::Task {
+            cost: self.cost,
+            period: self.period,
+            deadline: self.deadline,
+        }
     }
 }
 
@@ -30,4 +34,3 @@ pub impl Commanded for Window as WindowCommanded {
         Command::Window(*self)
     }
 }
-

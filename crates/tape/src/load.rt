@@ -40,7 +40,12 @@ impl Load {
     pub(crate) fn new(heap: Global) -> Load
         ensures { λ r. ⌜ progress r ≡ nothing-read ⌝ }
     {
-        Load { draft: Draft::new(heap), frame: 0, windows: Vec::new(heap), turn: Turn::Start }
+        Load {
+            draft: Draft::new(heap),
+            frame: 0,
+            windows: Vec::new(heap),
+            turn: Turn::Start,
+        }
     }
 
     fn add_partition(&mut self) -> Result<(), CommandFault>
@@ -75,7 +80,12 @@ impl Load {
     {
         let index = self.windows.len();
         check_count(index + 1)?;
-        check_window(self.frame, index as u16, last_of(self.windows.as_slice()), window)?;
+        check_window(
+            self.frame,
+            index as u16,
+            last_of(self.windows.as_slice()),
+            window,
+        )?;
         self.windows.push(window)?;
         self.turn = Turn::AfterFrame;
         Ok(())
@@ -86,7 +96,11 @@ impl Load {
     {
         match command {
             Command::Partition => self.add_partition(),
-            Command::Task { cost, period, deadline } => self.add_task(cost, period, deadline),
+            Command::Task {
+                cost,
+                period,
+                deadline,
+            } => self.add_task(cost, period, deadline),
             Command::Frame(frame) => self.set_frame(frame),
             Command::Window(window) => self.add_window(window),
             Command::End => Ok(()),

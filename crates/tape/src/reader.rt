@@ -100,16 +100,29 @@ fn store(load: Load, draft: &mut Draft, windows: &mut [Window]) -> Loaded
     ensures count { λ r. ⌜ r .windows ≤ length (now (windows .exit)) ⌝ }
     ensures later { λ r. ⌜ drop (r .windows) (now (windows .exit)) ≡ drop (r .windows) (now (windows .entry)) ⌝ }
 {
-    let Load { draft: read, frame, windows: list, turn: _ } = load;
+    let Load {
+        draft: read,
+        frame,
+        windows: list,
+        turn: _,
+    } = load;
     let count = list.len();
     windows[0..count].copy_from_slice(list.as_slice());
     *draft = read;
-    Loaded { windows: count as u16, frame }
+    Loaded {
+        windows: count as u16,
+        frame,
+    }
 }
 
 // Reads a tape: 76 first, then the first fault of the tape. A tape without fault replaces what the draft holds and
 // gives the first windows of the list; later windows are unchanged. After a refusal draft and list are as they were.
-pub fn read(heap: Global, tape: &[u8], draft: &mut Draft, windows: &mut [Window]) -> Result<Loaded, ReadRefusal>
+pub fn read(
+    heap: Global,
+    tape: &[u8],
+    draft: &mut Draft,
+    windows: &mut [Window],
+) -> Result<Loaded, ReadRefusal>
     ensures answer { λ r. ⌜ Cases r (λ x. reading (length (now (windows .entry))) (now (tape .entry)) ≡ done (given (module-of (now (draft .exit))) x (now (windows .exit)))) (λ e. Gives (told-fault e) (reading (length (now (windows .entry))) (now (tape .entry))) (Unit {0})) ⌝ }
     ensures count { λ r. ⌜ made r (λ x. x .windows ≤ length (now (windows .exit))) ⌝ }
     ensures later { λ r. ⌜ made r (λ x. drop (x .windows) (now (windows .exit)) ≡ drop (x .windows) (now (windows .entry))) ⌝ }

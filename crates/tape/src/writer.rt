@@ -83,12 +83,37 @@ fn put(command: Command, out: &mut [u8]) -> usize
 {
     match command {
         Command::Partition => copy(&[0x50], out),
-        Command::Task { cost, period, deadline } => {
-            copy(&[0x54, high(cost), low(cost), high(period), low(period), high(deadline), low(deadline)], out)
+        Command::Task {
+            cost,
+            period,
+            deadline,
+        } => {
+            copy(
+                &[
+                    0x54,
+                    high(cost),
+                    low(cost),
+                    high(period),
+                    low(period),
+                    high(deadline),
+                    low(deadline),
+                ],
+                out,
+            )
         }
         Command::Frame(frame) => copy(&[0x46, high(frame), low(frame)], out),
         Command::Window(window) => {
-            copy(&[0x57, window.partition, high(window.start), low(window.start), high(window.length), low(window.length)], out)
+            copy(
+                &[
+                    0x57,
+                    window.partition,
+                    high(window.start),
+                    low(window.start),
+                    high(window.length),
+                    low(window.length),
+                ],
+                out,
+            )
         }
         Command::End => copy(&[0x45], out),
     }
@@ -174,7 +199,12 @@ fn put_tape(draft: &Draft, frame: u16, windows: &[Window], out: &mut [u8]) -> us
 
 // Writes the tape of a draft with its frame and windows, and answers how many bytes it has; later bytes are unchanged.
 // Refused with 51 to 54, then 75, and then the buffer is as it was.
-pub fn write(draft: &Draft, frame: u16, windows: &[Window], buffer: &mut [u8]) -> Result<u16, WriteRefusal>
+pub fn write(
+    draft: &Draft,
+    frame: u16,
+    windows: &[Window],
+    buffer: &mut [u8],
+) -> Result<u16, WriteRefusal>
     ensures answer { λ r. ⌜ told-write r ≡ write-answer (module-of (now (draft .entry))) frame (now (windows .entry)) (length (now (buffer .entry))) ⌝ }
     ensures after { λ r. ⌜ now (buffer .exit) ≡ leaves (told-write r) (encode (module-of (now (draft .entry))) frame (now (windows .entry)) ++ drop (length (encode (module-of (now (draft .entry))) frame (now (windows .entry)))) (now (buffer .entry))) (now (buffer .entry)) ⌝ }
     ensures back { λ r. ⌜ made r (λ n. decode (take n (now (buffer .exit))) ≡ done (record { partitions = module-of (now (draft .entry)); frame = frame; windows = now (windows .entry) })) ⌝ }

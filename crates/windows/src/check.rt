@@ -30,7 +30,12 @@ pub fn check_count(count: usize) -> Result<(), WindowRefusal>
 }
 
 // Window `index` of a list, after the window before it, if there is one: 53, then 54.
-pub fn check_window(frame: u16, index: u16, previous: Option<Window>, window: Window) -> Result<(), WindowRefusal>
+pub fn check_window(
+    frame: u16,
+    index: u16,
+    previous: Option<Window>,
+    window: Window,
+) -> Result<(), WindowRefusal>
     ensures { λ r. ⌜ told r ≡ window-answer overlap frame index previous window ⌝ }
 {
     let end = u32::from(window.start) + u32::from(window.length);
@@ -38,7 +43,8 @@ pub fn check_window(frame: u16, index: u16, previous: Option<Window>, window: Wi
         return Err(WindowRefusal::Misplaced { window: index });
     }
     match previous {
-        Some(before) if u32::from(before.start) + u32::from(before.length) > u32::from(window.start) => {
+        Some(before)
+            if u32::from(before.start) + u32::from(before.length) > u32::from(window.start) => {
             Err(WindowRefusal::Overlap { window: index })
         }
         _ => Ok(()),

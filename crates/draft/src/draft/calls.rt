@@ -35,7 +35,10 @@ impl Draft {
     pub fn new(heap: Global) -> Draft
         ensures { λ r. ⌜ module-of r ≡ [] ⌝ }
     {
-        Draft { heap, partitions: Vec::new(heap) }
+        Draft {
+            heap,
+            partitions: Vec::new(heap),
+        }
     }
 
     // One partition more, with no tasks; its number is the answer. Refused with 11.
@@ -53,14 +56,21 @@ impl Draft {
     }
 
     // One task more in a partition; its number is the answer. Refused with 12, 13, 14, checked in that order.
-    pub fn add_task(&mut self, partition: u8, cost: u16, period: u16, deadline: u16) -> Result<u8, DraftRefusal>
+    pub fn add_task(
+        &mut self,
+        partition: u8,
+        cost: u16,
+        period: u16,
+        deadline: u16,
+    ) -> Result<u8, DraftRefusal>
         ensures answer { λ r. ⌜ Gives (told r) (task-answer (module-of (now (self .entry))) partition (task cost period deadline)) (No-room-in (now (self .entry)) partition) ⌝ }
         ensures after { λ r. ⌜ module-of (now (self .exit)) ≡ leaves-if (told r) (with-task (module-of (now (self .entry))) partition (task cost period deadline)) (module-of (now (self .entry))) ⌝ }
     {
         if partition as usize >= self.partitions.len() {
             return Err(DraftRefusal::NoSuchPartition);
         }
-        self.partitions[partition as usize].add(cost, period, deadline)
+        self.partitions[partition as usize]
+            .add(cost, period, deadline)
     }
 
     // How many partitions there are.

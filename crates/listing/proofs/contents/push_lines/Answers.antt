@@ -24,6 +24,6 @@ pub returns : need.returns
 returns g c =
     let f = g .T·Commanded .commanded in
     let all : take (c .loop-item .item-index) (map f (c .args .items .now)) ≡ map f (c .args .items .now) =
-        take-all (c .loop-item .item-index) (map f (c .args .items .now)) (simp length-map (c .loop-item-test .left))
+    take-all (c .loop-item .item-index) (map f (c .args .items .now)) (simp length-map (c .loop-item-test .left))
     in
     c .loop-item .inv ∙ ap (λ cs. string-bytes (c .args .text .now) ++ joined line cs) all

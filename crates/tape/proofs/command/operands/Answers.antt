@@ -28,7 +28,7 @@ returns-in-70 c =
     let e : getD xs 0 0 ≡ 0x46 = search needs in
     record {
       answer = rw take-rest (search needs);
-      bytes = rw (take-rest, c .word-in-70 .ensures) (frame-there xs h e (c .typed .tape 2 .fits))
+      bytes = rw (take-rest, c .word-in-70 .ensures) (frame-there xs h e (c .typed .tape 2 .fits));
     }
 
 pub returns-in-84 : need.returns-in-84
@@ -39,7 +39,7 @@ returns-in-84 c =
     let fits = c .typed .tape in
     record {
       answer = rw take-rest (search needs);
-      bytes = rw (take-rest, c .word-cost .ensures, c .word-period .ensures, c .word-deadline .ensures) (task-there xs h e (fits 2 .fits) (fits 4 .fits) (fits 6 .fits))
+      bytes = rw (take-rest, c .word-cost .ensures, c .word-period .ensures, c .word-deadline .ensures) (task-there xs h e (fits 2 .fits) (fits 4 .fits) (fits 6 .fits));
     }
 
 pub returns-in-87 : need.returns-in-87
@@ -50,5 +50,5 @@ returns-in-87 c =
     let fits = c .typed .tape in
     record {
       answer = rw take-rest (search needs);
-      bytes = rw (take-rest, c .word .ensures, c .word-in-87 .ensures) (window-there xs h e (fits 3 .fits) (fits 5 .fits))
+      bytes = rw (take-rest, c .word .ensures, c .word-in-87 .ensures) (window-there xs h e (fits 3 .fits) (fits 5 .fits));
     }

@@ -24,5 +24,5 @@ returns c =
     record {
       answer = ap holding same;
       count = omega (arith, length-append new later);
-      later = drop-at new later n long ∙ post-is 0 n (c .args .windows .now) (omega arith)
+      later = drop-at new later n long ∙ post-is 0 n (c .args .windows .now) (omega arith);
     }

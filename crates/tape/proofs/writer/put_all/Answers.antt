@@ -42,9 +42,9 @@ pub returns : need.returns
 returns g c =
     let f = g .T·Commanded .commanded in
     let all : take (c .loop-item .item-index) (map f (c .args .items .now)) ≡ map f (c .args .items .now) =
-        take-all (c .loop-item .item-index) (map f (c .args .items .now)) (simp length-map (c .loop-item-test .left))
+    take-all (c .loop-item .item-index) (map f (c .args .items .now)) (simp length-map (c .loop-item-test .left))
     in
     record {
       count = c .loop-item .inv .count ∙ ap (λ cs. length (joined bytes cs)) all;
-      after = c .loop-item .inv .after ∙ ap (λ cs. joined bytes cs ++ drop (c .loop-item .at) (c .args .out .now)) all
+      after = c .loop-item .inv .after ∙ ap (λ cs. joined bytes cs ++ drop (c .loop-item .at) (c .args .out .now)) all;
     }

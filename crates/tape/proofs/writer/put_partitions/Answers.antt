@@ -51,5 +51,5 @@ returns c =
     let all : take (c .loop-partition .partition) m ≡ m = take-all (c .loop-partition .partition) m (omega arith) in
     record {
       count = c .loop-partition .inv .count ∙ ap (λ ks. length (joined partition-bytes ks)) all;
-      after = c .loop-partition .inv .after ∙ ap (λ ks. joined partition-bytes ks ++ drop (c .loop-partition .at) (c .args .out .now)) all
+      after = c .loop-partition .inv .after ∙ ap (λ ks. joined partition-bytes ks ++ drop (c .loop-partition .at) (c .args .out .now)) all;
     }

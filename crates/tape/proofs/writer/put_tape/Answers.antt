@@ -36,5 +36,5 @@ returns c =
     let all = two-parts (joined partition-bytes m) tail (c .args .out .now) (c .put-partitions-at .last .out) (c .put-frame .last .out) (c .put-partitions-at .result) (c .put-frame .result) room (c .put-partitions-at .ensures .count) (c .put-partitions-at .ensures .after) (c .put-frame .ensures .count) (c .put-frame .ensures .after) in
     record {
       count = all .count ∙ ap length (sym is);
-      after = all .after ∙ ap (λ bs. bs ++ drop (c .put-partitions-at .result + c .put-frame .result) (c .args .out .now)) (sym is)
+      after = all .after ∙ ap (λ bs. bs ++ drop (c .put-partitions-at .result + c .put-frame .result) (c .args .out .now)) (sym is);
     }

@@ -34,13 +34,13 @@ returns c =
     let fit : Answer ℕ = cond (leb (length tape) (length was)) (granted (length tape)) (refused 75 []) in
     let granted-list = c .in-Continue-check-list .ensures tt in
     let front : take (c .put-tape .result) (c .put-tape .last .out) ≡ tape =
-        ap (take (c .put-tape .result)) (c .put-tape .ensures .after) ∙ take-at tape (drop (c .put-tape .result) was) (c .put-tape .result) (sym n)
+    ap (take (c .put-tape .result)) (c .put-tape .ensures .after) ∙ take-at tape (drop (c .put-tape .result) was) (c .put-tape .result) (sym n)
     in
     record {
       answer =
-        ap granted n
-        ∙ (sym (cond-true (leb (length tape) (length was)) _ _ (le-leb (length tape) (length was) fits))
-        ∙ ap (λ a. and-then a fit) granted-list);
+          ap granted n
+          ∙ (sym (cond-true (leb (length tape) (length was)) _ _ (le-leb (length tape) (length was) fits))
+          ∙ ap (λ a. and-then a fit) granted-list);
       after = c .put-tape .ensures .after ∙ ap (λ k. tape ++ drop k was) n;
-      back = ap decode front ∙ reads-back (module-of d) f ws (draft-within d) (sym granted-list)
+      back = ap decode front ∙ reads-back (module-of d) f ws (draft-within d) (sym granted-list);
     }

@@ -11,7 +11,7 @@ returns-in-Break-check-window c =
     let p = err-from-errBy (c .from-residual-in-Break-check-window .result) (c .from-residual-in-Break-check-window .ensures .1) in
     let e = c .in-Break-check-window .field-0 .0 in
     let stop =
-      windows-stop overlap (c .args .frame) (c .loop-i .previous) (c .args .windows .now) (c .loop-i .i) _ (c .loop-i-test .taken) (number e) (values e) (c .in-Break-check-window .ensures tt)
+    windows-stop overlap (c .args .frame) (c .loop-i .previous) (c .args .windows .now) (c .loop-i .i) _ (c .loop-i-test .taken) (number e) (values e) (c .in-Break-check-window .ensures tt)
     in
     let list = list-by-windows overlap (c .args .frame) (c .args .windows .now) (c .in-Continue-check-frame .ensures tt) (c .in-Continue-check-count .ensures tt) in
     rw (p .1, p .2) (sym stop ∙ (c .loop-i .inv ∙ sym list))

@@ -26,6 +26,6 @@ returns c =
     record {
       answer = ap granted (c .len-number .ensures ∙ sym n) ∙ cond-below (length (module-of d)) 8 (granted (length (module-of d))) (refused 11 []) (omega arith);
       after =
-        ap (map tasks-in) (c .in-Continue-push .ensures tt .items)
-        ∙ (map-push tasks-in (vec-items (d .partitions)) _ ∙ ap (λ ks. module-of d ++ (ks ∷ [])) (c .new-tasks .ensures .items));
+          ap (map tasks-in) (c .in-Continue-push .ensures tt .items)
+          ∙ (map-push tasks-in (vec-items (d .partitions)) _ ∙ ap (λ ks. module-of d ++ (ks ∷ [])) (c .new-tasks .ensures .items));
     }
