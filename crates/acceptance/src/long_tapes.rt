@@ -7,13 +7,13 @@ use model::WindowPartialEq;
 use std::alloc::AllocError;
 use std::alloc::Global;
 use std::test::*;
-use tape::Loaded;
-use tape::LoadedDebug;
-use tape::LoadedPartialEq;
-use tape::ReadRefusal;
-use tape::ReadRefusalDebug;
-use tape::ReadRefusalPartialEq;
-use tape::read;
+use tape_reader::Loaded;
+use tape_reader::LoadedDebug;
+use tape_reader::LoadedPartialEq;
+use tape_reader::ReadRefusal;
+use tape_reader::ReadRefusalDebug;
+use tape_reader::ReadRefusalPartialEq;
+use tape_reader::read;
 
 const TASK: [u8; 7] = [0x54, 0, 1, 0, 100, 0, 100];
 

@@ -7,7 +7,7 @@ ghost use Rattle.std.specs.Vec.{made};
 ghost use Rattle.draft.specs.Drafts.{module-of};
 ghost use Rattle.tape.specs.Commands.{partition-commands, commands};
 ghost use Rattle.tape.specs.Loading.{decode};
-ghost use Rattle.tape.specs.Loads.{told-fault};
+ghost use Rattle.tape_reader.specs.Loads.{told-fault};
 ghost use Rattle.listing.specs.Lines.{line, listed, listed-if};
 use crate::line::command_line;
 use crate::line::fault_line;
@@ -18,10 +18,10 @@ use std::alloc::AllocError;
 use std::alloc::Global;
 use tape::Command;
 use tape::Commanded;
-use tape::ReadRefusal;
 use tape::TaskCommanded;
 use tape::WindowCommanded;
-use tape::read;
+use tape_reader::ReadRefusal;
+use tape_reader::read;
 
 fn push_line(heap: Global, text: &mut String, command: Command) -> Result<(), AllocError>
     ensures { λ r. ⌜ made r (λ _. string-bytes (now (text .exit)) ≡ string-bytes (now (text .entry)) ++ line command) ⌝ }

@@ -2,11 +2,8 @@ pub mod Again
 pub mod Commands
 pub mod Lengths
 pub mod Lists
-pub mod Located
 pub mod Plays
 pub mod Reading
 pub mod RoundTrip
 pub mod SoFar
-pub mod Whole
 pub mod Words
-pub mod Written

@@ -9,12 +9,9 @@ use lib.ListN.{length, getD}
 use Rattle.std.proofs.shelf.Lists.{append-assoc, append-nil, length-append}
 use Rattle.std.proofs.shelf.Tests.{cond-true, cond-false, eq-eqb, false≢true}
 use Rattle.std.specs.Joined.{joined}
-use Rattle.std.specs.declared.option.Option.{Option}
-use Rattle.std.specs.declared.option.Option.the-variants.{Some, None}
 use Rattle.std.specs.declared.result.Result.{Result}
 use Rattle.std.specs.declared.result.Result.the-variants.{Ok, Err}
 use Rattle.model.specs.declared.window.Window.{Window as ModelWindow}
-use Rattle.model.specs.Answers.{Gives}
 use Rattle.model.specs.Modules.{Module, module-within}
 use Rattle.tape.specs.declared.command.Command.{Command}
 use Rattle.tape.specs.declared.command.Command.the-variants.{Partition, Task, Frame, Window, End}
@@ -25,7 +22,6 @@ use Rattle.tape.specs.declared.fault.Layer.the-variants.{Tape}
 use Rattle.tape.specs.Commands.{bytes, partition-commands, commands, encode}
 use Rattle.tape.specs.Decode.{command, in-turn, admits, operands, after-frame}
 use Rattle.tape.specs.Loading.{Progress, Contents, Reading, done, faulty, nothing-read, contents, obeyed, is-end, ended, after-obeyed, after-bytes, next, after-next, decode-from, decode}
-use Rattle.tape.specs.Loads.{Fails, fault-at}
 use Rattle.tape.proofs.Commands.{follows, follows-read}
 use Rattle.tape.proofs.Lengths.{so-far-short}
 use Rattle.tape.proofs.Lists.{joined-append}
@@ -159,8 +155,3 @@ module _ (tape : List ℕ) (l : Progress) (xs : List ℕ) (at : Standing tape l 
         ∙ (sym (one-more-byte (so-far l) End []) ∙ (append-nil (joined bytes (so-far l ++ (End ∷ []))) ∙ ap (joined bytes) (sym (all-commands (l .partitions) (l .frame) (l .windows) (l .turn) f)))))
         in
         subst (λ p. (encode (p .partitions) (p .frame) (p .windows) ≡ tape) × (length (p .windows) ≤ 64)) s (sym t, at .few)
-
--- A fault of the next command, by its number and layer, is what the tape gives; nothing is known where memory is wanting.
-pub standing-told : (tape : List ℕ) (l : Progress) (xs : List ℕ) → Standing tape l xs → (e : Option (ℕ × Layer)) → Fails e (next l xs) → Gives (fault-at e (length tape - length xs)) (decode tape) (Unit {0})
-standing-told tape l xs at (Some e) f = sym (standing-fault tape l xs at e f)
-standing-told tape l xs at None f = tt

@@ -3,8 +3,6 @@ use mathlib.Core.List.{[]}
 use Prim.Native.Nat.{ℕ}
 use Rattle.std.specs.declared.option.Option.{Option}
 use Rattle.std.specs.declared.option.Option.the-variants.{Some, None}
-use Rattle.std.specs.declared.result.Result.{Result}
-use Rattle.std.specs.declared.result.Result.the-variants.{Ok, Err}
 use Rattle.draft.specs.declared.refusal.DraftRefusal.{DraftRefusal}
 use Rattle.draft.specs.declared.refusal.DraftRefusal.the-variants.{TooManyPartitions, NoSuchPartition, TooManyTasks, OutsideLimits, NoMemory as DraftNoMemory}
 use Rattle.draft.specs.Refusals as drafts
@@ -13,8 +11,6 @@ use Rattle.tape.specs.declared.fault.TapeFault.{TapeFault}
 use Rattle.tape.specs.declared.fault.TapeFault.the-variants.{Truncated, UnknownCommand, OutOfTurn, TrailingBytes}
 use Rattle.tape.specs.declared.fault.CommandFault.{CommandFault}
 use Rattle.tape.specs.declared.fault.CommandFault.the-variants.{Tape, Draft, Windows, NoMemory}
-use Rattle.tape.specs.declared.reader.ReadRefusal.{ReadRefusal}
-use Rattle.tape.specs.declared.reader.ReadRefusal.the-variants.{Fault, ShortList}
 use Rattle.tape.specs.declared.fault.Layer.{Layer}
 use Rattle.tape.specs.declared.fault.Layer.the-variants as layer
 
@@ -42,8 +38,3 @@ placed (Tape e) = Some (tape-number e, layer.Tape)
 placed (Draft e) = in-draft (drafts.number e)
 placed (Windows e) = Some (lists.number e, layer.Windows)
 placed NoMemory = None
-
--- a command's answer, its fault with the command's offset
-abbrev pub located : {A : Type 0} → ℕ → Result A CommandFault → Result A ReadRefusal
-located o (Ok x) = Ok x
-located o (Err e) = Err (Fault e o)

@@ -2,6 +2,4 @@ pub mod Commands
 pub mod Decode
 pub mod Faults
 pub mod Loading
-pub mod Loads
 pub mod RoundTrip
-pub mod Writing

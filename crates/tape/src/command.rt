@@ -29,7 +29,7 @@ pub enum Command {
 
 // Where a tape stands, by what came last. A command that may only follow a task would find its place here.
 #[derive(Clone, Copy, PartialEq, Eq, Debug)]
-pub(crate) enum Turn {
+pub enum Turn {
     Start,
     AfterPartition,
     AfterTask,
@@ -89,7 +89,7 @@ fn operands(tape: &[u8]) -> Result<(Command, &[u8]), TapeFault>
 }
 
 // The next command of a tape, and what follows it: 72, 73, 71.
-pub(crate) fn next_command(turn: Turn, tape: &[u8]) -> Result<(Command, &[u8]), TapeFault>
+pub fn next_command(turn: Turn, tape: &[u8]) -> Result<(Command, &[u8]), TapeFault>
     ensures answer { λ r. ⌜ Cases r (λ p. command turn (now (tape .entry)) ≡ Ok (p .0, now (p .1))) (λ e. command turn (now (tape .entry)) ≡ Err (tape-number e)) ⌝ }
     ensures bytes { λ r. ⌜ made r (λ p. now (tape .entry) ≡ bytes (p .0) ++ now (p .1)) ⌝ }
 {

@@ -35,10 +35,8 @@ impl Draft {
     pub fn new(heap: Global) -> Draft
         ensures { λ r. ⌜ module-of r ≡ [] ⌝ }
     {
-        Draft {
-            heap,
-            partitions: Vec::new(heap),
-        }
+        let partitions = Vec::new(heap);
+        Draft { heap, partitions }
     }
 
     // One partition more, with no tasks; its number is the answer. Refused with 11.
@@ -46,13 +44,13 @@ impl Draft {
         ensures answer { λ r. ⌜ Gives (told r) (partition-answer (module-of (now (self .entry)))) (No-room (now (self .entry))) ⌝ }
         ensures after { λ r. ⌜ module-of (now (self .exit)) ≡ leaves-if (told r) (with-partition (module-of (now (self .entry)))) (module-of (now (self .entry))) ⌝ }
     {
-        let number = self.partitions.len();
-        if number >= 8 {
+        let partition = self.partitions.len();
+        if partition >= 8 {
             return Err(DraftRefusal::TooManyPartitions);
         }
         let tasks = Vec::new(self.heap);
         self.partitions.push(Partition { tasks })?;
-        Ok(number as u8)
+        Ok(partition as u8)
     }
 
     // One task more in a partition; its number is the answer. Refused with 12, 13, 14, checked in that order.

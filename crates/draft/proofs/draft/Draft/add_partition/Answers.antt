@@ -11,8 +11,8 @@ use Rattle.draft.specs.Drafts.{tasks-in, module-of}
 use Rattle.draft.proofs.Modules.{module-length}
 use Rattle.draft.proofs.draft.Draft.add_partition.Needs as need
 
-pub returns-then-number-ge8 : need.returns-then-number-ge8
-returns-then-number-ge8 c =
+pub returns-then-partition-ge8 : need.returns-then-partition-ge8
+returns-then-partition-ge8 c =
     let d = c .args .self .now in
     record {
       answer = cond-above (length (module-of d)) 8 (granted (length (module-of d))) (refused 11 []) (refused 11 []) (omega (arith, module-length d)) refl;
@@ -24,7 +24,7 @@ returns c =
     let d = c .args .self .now in
     let n = module-length d in
     record {
-      answer = ap granted (c .len-number .ensures ∙ sym n) ∙ cond-below (length (module-of d)) 8 (granted (length (module-of d))) (refused 11 []) (omega arith);
+      answer = ap granted (c .len-partition .ensures ∙ sym n) ∙ cond-below (length (module-of d)) 8 (granted (length (module-of d))) (refused 11 []) (omega arith);
       after =
           ap (map tasks-in) (c .in-Continue-push .ensures tt .items)
           ∙ (map-push tasks-in (vec-items (d .partitions)) _ ∙ ap (λ ks. module-of d ++ (ks ∷ [])) (c .new-tasks .ensures .items));
