@@ -13,7 +13,7 @@ use Rattle.std.specs.Of.Vec.{vec-items, vec-len}
 use Rattle.std.specs.declared.option.Option.{Option}
 use Rattle.std.specs.declared.option.Option.the-variants.{Some, None}
 use Rattle.model.specs.declared.task.Task.{Task}
-use Rattle.model.specs.Answers.{Answer, granted, refused, Gives, leaves-if}
+use Rattle.model.specs.Answers.{Answer, granted, refused, Gives, Granted, leaves-if}
 use Rattle.model.specs.Modules.{Module, task, task-within, tasks-of, within-limits, all-within, partition-within, partitions-within, module-within}
 use Rattle.draft.specs.declared.draft.Partition.{Partition}
 use Rattle.draft.specs.declared.draft.Draft.{Draft}
@@ -54,10 +54,10 @@ module _ (items : List Partition) (p : ℕ) (old : Partition) (h : p < length it
   full-here f x e = subst Full (is ∙ (getD-default items p old x h ∙ sym e)) f
 
   -- what a partition answers is what the draft answers
-  pub task-answer-at : (k : Task) (a : Option (Answer ℕ)) → Gives a (task-answer-in (tasks-in old) k) (Full old) → Gives a (task-answer (map tasks-in items) p k) ((x : Partition) → x ≡ getD items p x → Full x)
+  pub task-answer-at : (k : Task) (a : Option (Answer ℕ)) → Gives a (task-answer-in (tasks-in old) k) (Granted (task-answer-in (tasks-in old) k) × Full old) → Gives a (task-answer (map tasks-in items) p k) (Granted (task-answer (map tasks-in items) p k) × ((x : Partition) → x ≡ getD items p x → Full x))
   task-answer-at k (Some (granted n)) g = g ∙ task-answer-here k
   task-answer-at k (Some (refused n vs)) g = g ∙ task-answer-here k
-  task-answer-at k None f = full-here f
+  task-answer-at k None f = ((f .0 .0, sym (task-answer-here k) ∙ f .0 .1), full-here (f .1))
 
   -- what a partition's call leaves is what the draft's leaves
   pub module-after : (new : Partition) (k : Task) (a : Option (Answer ℕ)) → tasks-in new ≡ leaves-if a (tasks-in old ++ (k ∷ [])) (tasks-in old) → map tasks-in (set items p new) ≡ leaves-if a (with-task (map tasks-in items) p k) (map tasks-in items)

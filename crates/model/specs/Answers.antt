@@ -20,6 +20,10 @@ abbrev pub leaves : {A B : Type 0} → Answer A → B → B → B
 leaves (granted x) changed was = changed
 leaves (refused n vs) changed was = was
 
+-- the call is granted
+abbrev pub Granted : {A : Type 0} → Answer A → Type 0
+Granted {A} a = (x : A) × (a ≡ granted x)
+
 -- A call that allocates may say that memory is wanting, in place of its answer: that is `None` below. It then leaves
 -- everything as it was, and P says when it may come to that.
 abbrev pub Gives : {A : Type 0} → Option A → A → Type 0 → Type 0

@@ -2,7 +2,7 @@
 ghost use mathlib.Core.Path.{_≡_};
 ghost use mathlib.Core.List.{[], _∷_, _++_};
 ghost use lib.ListN.{length};
-ghost use Rattle.model.specs.Answers.{Gives, leaves-if};
+ghost use Rattle.model.specs.Answers.{Gives, Granted, leaves-if};
 ghost use Rattle.model.specs.Modules.{task, tasks-of};
 ghost use Rattle.draft.specs.Drafts.{module-of, tasks-in, Full, No-room, No-room-in, with-partition, with-task, partition-answer, task-answer, task-answer-in};
 ghost use Rattle.draft.specs.Refusals.{told};
@@ -16,7 +16,7 @@ use std::alloc::Global;
 impl Partition {
     // One task more: 13, then 14.
     fn add(&mut self, cost: u16, period: u16, deadline: u16) -> Result<u8, DraftRefusal>
-        ensures answer { λ r. ⌜ Gives (told r) (task-answer-in (tasks-in (now (self .entry))) (task cost period deadline)) (Full (now (self .entry))) ⌝ }
+        ensures answer { λ r. ⌜ Gives (told r) (task-answer-in (tasks-in (now (self .entry))) (task cost period deadline)) (Granted (task-answer-in (tasks-in (now (self .entry))) (task cost period deadline)) × Full (now (self .entry))) ⌝ }
         ensures after { λ r. ⌜ tasks-in (now (self .exit)) ≡ leaves-if (told r) (tasks-in (now (self .entry)) ++ (task cost period deadline ∷ [])) (tasks-in (now (self .entry))) ⌝ }
     {
         let number = self.tasks.len();
@@ -41,7 +41,7 @@ impl Draft {
 
     // One partition more, with no tasks; its number is the answer. Refused with 11.
     pub fn add_partition(&mut self) -> Result<u8, DraftRefusal>
-        ensures answer { λ r. ⌜ Gives (told r) (partition-answer (module-of (now (self .entry)))) (No-room (now (self .entry))) ⌝ }
+        ensures answer { λ r. ⌜ Gives (told r) (partition-answer (module-of (now (self .entry)))) (Granted (partition-answer (module-of (now (self .entry)))) × No-room (now (self .entry))) ⌝ }
         ensures after { λ r. ⌜ module-of (now (self .exit)) ≡ leaves-if (told r) (with-partition (module-of (now (self .entry)))) (module-of (now (self .entry))) ⌝ }
     {
         let partition = self.partitions.len();
@@ -61,7 +61,7 @@ impl Draft {
         period: u16,
         deadline: u16,
     ) -> Result<u8, DraftRefusal>
-        ensures answer { λ r. ⌜ Gives (told r) (task-answer (module-of (now (self .entry))) partition (task cost period deadline)) (No-room-in (now (self .entry)) partition) ⌝ }
+        ensures answer { λ r. ⌜ Gives (told r) (task-answer (module-of (now (self .entry))) partition (task cost period deadline)) (Granted (task-answer (module-of (now (self .entry))) partition (task cost period deadline)) × No-room-in (now (self .entry)) partition) ⌝ }
         ensures after { λ r. ⌜ module-of (now (self .exit)) ≡ leaves-if (told r) (with-task (module-of (now (self .entry))) partition (task cost period deadline)) (module-of (now (self .entry))) ⌝ }
     {
         if partition as usize >= self.partitions.len() {

@@ -4,6 +4,7 @@ use Prim.Native.Nat.{_≤_}
 use mathlib.Core.List.{[], _∷_, _++_, map}
 use lib.ListN.{length}
 use Rattle.std.proofs.shelf.Lists.{map-push}
+use Rattle.std.proofs.shelf.Results.{err-from-errBy}
 use Rattle.std.proofs.shelf.Tests.{cond-below, cond-above}
 use Rattle.std.specs.Of.Vec.{vec-items}
 use Rattle.model.specs.Answers.{granted, refused}
@@ -29,3 +30,13 @@ returns c =
           ap (map tasks-in) (c .in-Continue-push .ensures tt .items)
           ∙ (map-push tasks-in (vec-items (d .partitions)) _ ∙ ap (λ ks. module-of d ++ (ks ∷ [])) (c .new-tasks .ensures .items));
     }
+
+pub returns-in-Break-push : need.returns-in-Break-push
+returns-in-Break-push c =
+    let d = c .args .self .now in
+    let p = err-from-errBy (c .from-residual .result) (c .from-residual .ensures .1) in
+    let free = cond-below (length (module-of d)) 8 (granted (length (module-of d))) (refused 11 []) (omega (arith, module-length d)) in
+    rw (p .1, p .2) (record {
+      answer = ((length (module-of d), sym free), c .in-Break-push .ensures tt .cases);
+      after = ap (map tasks-in) (c .in-Break-push .ensures tt .items);
+    })
