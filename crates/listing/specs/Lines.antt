@@ -42,7 +42,7 @@ fault-line n y o = codes "refused " ++ (decimal n ++ (codes " " ++ (layer-name y
 -- what a tape gives, as text
 abbrev pub listed : Reading Contents → List ℕ
 listed (done t) = joined line (commands (t .partitions) (t .frame) (t .windows))
-listed (faulty n y o) = fault-line n y o
+listed (faulty n vs y o) = fault-line n y o
 listed (declined n) = number-line n
 
 -- the text of a refusal; memory that is wanting gives none

@@ -16,7 +16,7 @@ use Rattle.std.specs.declared.result.Result.the-variants.{Ok, Err}
 use Rattle.tape.specs.declared.command.Command.{Command}
 use Rattle.tape.specs.declared.command.Command.the-variants.{Partition, Task, Frame, Window, End}
 use Rattle.tape.specs.declared.command.Turn.{Turn}
-use Rattle.tape.specs.declared.fault.Layer.{Layer}
+use Rattle.tape.specs.Faults.{Breach}
 use Rattle.tape.specs.Commands.{bytes, encode}
 use Rattle.tape.specs.Decode.{word-at, whole, operands, in-turn, admits, command}
 use Rattle.tape.specs.Loading.{Progress, Contents, Reading, done, faulty, contents, nothing-read, is-end, ended, next, after-next, decode-from, decode}
@@ -81,7 +81,7 @@ module _ (tape : List ℕ) (t : Contents) where
           subst (λ t. encode (t .partitions) (t .frame) (t .windows) ≡ tape) same (standing-again tape l xs at c rest then front r end (eqb-true (length rest) 0 none) .0))
           (λ some e. let z : _≡_ {A = ℕ} 0 1 = cc in absurd (omega arith))
 
-    by-next : (most : ℕ) → ((then : Progress) (rest : List ℕ) → Standing tape then rest → Bytes rest → decode-from most (length tape) then rest ≡ done t → Holds) → (r : Result (Command × List ℕ × Progress) (ℕ × Layer)) → next l xs ≡ r → after-next (length tape - length xs) r (λ c rest then. cond (is-end c) (ended (length tape) then rest) (decode-from most (length tape) then rest)) ≡ done t → Holds
+    by-next : (most : ℕ) → ((then : Progress) (rest : List ℕ) → Standing tape then rest → Bytes rest → decode-from most (length tape) then rest ≡ done t → Holds) → (r : Result (Command × List ℕ × Progress) Breach) → next l xs ≡ r → after-next (length tape - length xs) r (λ c rest then. cond (is-end c) (ended (length tape) then rest) (decode-from most (length tape) then rest)) ≡ done t → Holds
     by-next most go (Err e) q d = let z : _≡_ {A = ℕ} 0 1 = cc in absurd (omega arith)
     by-next most go (Ok p) q d =
         let c = p .0 in

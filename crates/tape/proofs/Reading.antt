@@ -17,7 +17,7 @@ use Rattle.tape.specs.declared.command.Command.{Command}
 use Rattle.tape.specs.declared.command.Command.the-variants.{Partition, Task, Frame, Window, End}
 use Rattle.tape.specs.declared.command.Turn.{Turn}
 use Rattle.tape.specs.declared.command.Turn.the-variants.{Start, AfterPartition, AfterTask, AfterFrame}
-use Rattle.tape.specs.declared.fault.Layer.{Layer}
+use Rattle.tape.specs.Faults.{Breach}
 use Rattle.tape.specs.declared.fault.Layer.the-variants.{Tape}
 use Rattle.tape.specs.Commands.{bytes, partition-commands, commands, encode}
 use Rattle.tape.specs.Decode.{command, in-turn, admits, operands, after-frame}
@@ -32,7 +32,7 @@ use Rattle.tape.proofs.SoFar.{framed, the-frame, so-far, Orderly, Added, obeye
 unfoldable pub Parts : Progress → Command → List ℕ → Progress → Result (Command × List ℕ) ℕ → Type 0
 Parts l c rest then r = (r ≡ Ok (c, rest)) × (obeyed l c ≡ Ok then)
 
-obeyed-part : (c d : Command) (xs ys : List ℕ) (then : Progress) (q : Result Progress (ℕ × Layer)) → after-obeyed c xs q ≡ Ok (d, ys, then) → (c ≡ d) × (xs ≡ ys) × (q ≡ Ok then)
+obeyed-part : (c d : Command) (xs ys : List ℕ) (then : Progress) (q : Result Progress Breach) → after-obeyed c xs q ≡ Ok (d, ys, then) → (c ≡ d) × (xs ≡ ys) × (q ≡ Ok then)
 obeyed-part c d xs ys then (Ok l) e =
     let Read : Type 0 = Command × List ℕ × Progress in
     let t : _≡_ {A = Read} (c, xs, l) (d, ys, then) = cc in
@@ -46,7 +46,7 @@ parts l c rest then (Ok p) e =
     (ap (λ d. Ok (d, p .1)) (s .0) ∙ ap (λ ys. Ok (c, ys)) (s .1), ap (obeyed l) (sym (s .0)) ∙ s .2)
 parts l c rest then (Err k) e = let z : _≡_ {A = ℕ} 0 1 = cc in absurd (omega arith)
 
-next-none : (l : Progress) (xs : List ℕ) → length xs ≡ 0 → next l xs ≡ Err (71, Tape)
+next-none : (l : Progress) (xs : List ℕ) → length xs ≡ 0 → next l xs ≡ Err (71, [], Tape)
 next-none l xs h = ap (after-bytes l) (cond-true (eqb (length xs) 0) (Err 71) (in-turn (admits (l .turn) (getD xs 0 0)) (operands xs)) (eq-eqb (length xs) 0 h))
 
 pub bytes-some : (c : Command) (more : List ℕ) → length more < length (bytes c ++ more)
@@ -58,8 +58,8 @@ bytes-some End more = omega arith
 
 -- What decode-from gives, by the next command.
 module _ (n : ℕ) (l : Progress) (xs : List ℕ) where
-  pub decode-fault : (most : ℕ) (e : ℕ × Layer) → length xs ≤ most → next l xs ≡ Err e → decode-from most n l xs ≡ faulty (e .0) (e .1) (n - length xs)
-  decode-fault zero e h r = let f : Err (71, Tape) ≡ Err e = sym (next-none l xs (omega arith)) ∙ r in cc
+  pub decode-fault : (most : ℕ) (e : Breach) → length xs ≤ most → next l xs ≡ Err e → decode-from most n l xs ≡ faulty (e .0) (e .1) (e .2) (n - length xs)
+  decode-fault zero e h r = let f : Err (71, [], Tape) ≡ Err e = sym (next-none l xs (omega arith)) ∙ r in cc
   decode-fault (suc most) e h r = ap (λ r. after-next (n - length xs) r (λ c rest then. cond (is-end c) (ended n then rest) (decode-from most n then rest))) r
 
   module _ (c : Command) (rest : List ℕ) (then : Progress) (e : xs ≡ bytes c ++ rest) (r : next l xs ≡ Ok (c, rest, then)) where
@@ -112,7 +112,7 @@ module _ (tape : List ℕ) (l : Progress) (xs : List ℕ) (at : Standing tape l 
       let s = so-far-short l w (at .few) in
       (omega arith, omega arith, omega arith)
 
-  pub standing-fault : (e : ℕ × Layer) → next l xs ≡ Err e → decode tape ≡ faulty (e .0) (e .1) (length tape - length xs)
+  pub standing-fault : (e : Breach) → next l xs ≡ Err e → decode tape ≡ faulty (e .0) (e .1) (e .2) (length tape - length xs)
   standing-fault e r = sym (at .decides .2) ∙ decode-fault (length tape) l xs (at .decides .0) e (at .decides .1) r
 
   module _ (c : Command) (rest : List ℕ) (then : Progress) (e : xs ≡ bytes c ++ rest) (r : next l xs ≡ Ok (c, rest, then)) where

@@ -1,5 +1,5 @@
 -- The faults of a tape, by number and layer.
-use mathlib.Core.List.{[]}
+use mathlib.Core.List.{List, []}
 use Prim.Native.Nat.{ℕ}
 use Rattle.std.specs.declared.option.Option.{Option}
 use Rattle.std.specs.declared.option.Option.the-variants.{Some, None}
@@ -28,13 +28,22 @@ from-draft TooManyTasks = Draft TooManyTasks
 from-draft OutsideLimits = Draft OutsideLimits
 from-draft DraftNoMemory = NoMemory
 
-abbrev pub in-draft : Option ℕ → Option (ℕ × Layer)
-in-draft (Some n) = Some (n, layer.Draft)
+-- A breach of a rule: its number, the values that it names, and the layer whose rule it is.
+abbrev pub Breach : Type 0
+Breach = ℕ × List ℕ × Layer
+
+abbrev pub in-draft : Option ℕ → Option Breach
+in-draft (Some n) = Some (n, [], layer.Draft)
 in-draft None = None
 
--- the fault's number and layer; None where memory is wanting
-abbrev pub placed : CommandFault → Option (ℕ × Layer)
-placed (Tape e) = Some (tape-number e, layer.Tape)
-placed (Draft e) = in-draft (drafts.number e)
-placed (Windows e) = Some (lists.number e, layer.Windows)
-placed NoMemory = None
+-- the breach that a command's fault tells of; None where memory is wanting
+abbrev pub breach : CommandFault → Option Breach
+breach (Tape e) = Some (tape-number e, [], layer.Tape)
+breach (Draft e) = in-draft (drafts.number e)
+breach (Windows e) = Some (lists.number e, lists.values e, layer.Windows)
+breach NoMemory = None
+
+-- its number and layer alone
+abbrev pub placed : Option Breach → Option (ℕ × Layer)
+placed (Some e) = Some (e .0, e .2)
+placed None = None

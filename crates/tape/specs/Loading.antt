@@ -20,6 +20,7 @@ use Rattle.tape.specs.declared.command.Turn.the-variants.{Start, AfterPartitio
 use Rattle.tape.specs.declared.fault.Layer.{Layer}
 use Rattle.tape.specs.declared.fault.Layer.the-variants.{Tape, Draft, Windows}
 use Rattle.tape.specs.Decode.{command}
+use Rattle.tape.specs.Faults.{Breach}
 
 -- What a tape holds: the tasks of each partition, the frame and the windows.
 pub record Contents : Type 0 where
@@ -48,12 +49,12 @@ abbrev pub last-of : List ModelWindow → Option ModelWindow
 last-of ws = nth ws (length ws - 1)
 
 -- a refusal gains the layer that it comes from
-abbrev pub in-layer : {A : Type 0} → Layer → Answer A → Progress → Result Progress (ℕ × Layer)
+abbrev pub in-layer : {A : Type 0} → Layer → Answer A → Progress → Result Progress Breach
 in-layer y (granted x) l = Ok l
-in-layer y (refused n vs) l = Err (n, y)
+in-layer y (refused n vs) l = Err (n, vs, y)
 
 -- one command, by the rules of drafts and windows; the 65th window is 52, whatever it is
-abbrev pub obeyed : Progress → Command → Result Progress (ℕ × Layer)
+abbrev pub obeyed : Progress → Command → Result Progress Breach
 obeyed l Partition =
     in-layer Draft (partition-answer (l .partitions)) (record {
       partitions = with-partition (l .partitions);
@@ -86,10 +87,10 @@ obeyed l (Window w) =
     })
 obeyed l End = Ok l
 
--- What reading gives: something, or a fault by number, layer and byte offset, or a refusal by its number alone.
+-- What reading gives: something, or a fault by number, values, layer and byte offset, or a refusal by its number alone.
 pub data Reading (A : Type 0) : Type 0 where
   done : A → Reading A
-  faulty : ℕ → Layer → ℕ → Reading A
+  faulty : ℕ → List ℕ → Layer → ℕ → Reading A
   declined : ℕ → Reading A
 
 abbrev pub is-end : Command → Bool
@@ -101,28 +102,28 @@ is-end End = true
 
 -- nothing follows the end: 74 at the first extra byte
 abbrev pub ended : ℕ → Progress → List ℕ → Reading Contents
-ended n l rest = cond (eqb (length rest) 0) (done (contents l)) (faulty 74 Tape (n - length rest))
+ended n l rest = cond (eqb (length rest) 0) (done (contents l)) (faulty 74 [] Tape (n - length rest))
 
 -- the next command, read and obeyed: the command, what follows it, and what is read then
-abbrev pub after-obeyed : Command → List ℕ → Result Progress (ℕ × Layer) → Result (Command × List ℕ × Progress) (ℕ × Layer)
+abbrev pub after-obeyed : Command → List ℕ → Result Progress Breach → Result (Command × List ℕ × Progress) Breach
 after-obeyed c rest (Ok l) = Ok (c, rest, l)
 after-obeyed c rest (Err e) = Err e
 
-abbrev pub after-bytes : Progress → Result (Command × List ℕ) ℕ → Result (Command × List ℕ × Progress) (ℕ × Layer)
+abbrev pub after-bytes : Progress → Result (Command × List ℕ) ℕ → Result (Command × List ℕ × Progress) Breach
 after-bytes l (Ok p) = after-obeyed (p .0) (p .1) (obeyed l (p .0))
-after-bytes l (Err k) = Err (k, Tape)
+after-bytes l (Err k) = Err (k, [], Tape)
 
-abbrev pub next : Progress → List ℕ → Result (Command × List ℕ × Progress) (ℕ × Layer)
+abbrev pub next : Progress → List ℕ → Result (Command × List ℕ × Progress) Breach
 next l xs = after-bytes l (command (l .turn) xs)
 
 -- a fault gains the offset o of its command; else reading goes on
-abbrev pub after-next : ℕ → Result (Command × List ℕ × Progress) (ℕ × Layer) → (Command → List ℕ → Progress → Reading Contents) → Reading Contents
+abbrev pub after-next : ℕ → Result (Command × List ℕ × Progress) Breach → (Command → List ℕ → Progress → Reading Contents) → Reading Contents
 after-next o (Ok p) go = go (p .0) (p .1) (p .2)
-after-next o (Err e) go = faulty (e .0) (e .1) o
+after-next o (Err e) go = faulty (e .0) (e .1) (e .2) o
 
 -- Reads on where xs is left of a tape of n bytes, by at most so many commands: a tape has no more of them than bytes.
 abbrev pub decode-from : ℕ → ℕ → Progress → List ℕ → Reading Contents
-decode-from zero n l xs = faulty 71 Tape (n - length xs)
+decode-from zero n l xs = faulty 71 [] Tape (n - length xs)
 decode-from (suc most) n l xs =
     after-next (n - length xs) (next l xs) (λ c rest then. cond (is-end c) (ended n then rest) (decode-from most n then rest))
 

@@ -1,7 +1,7 @@
 // What can be wrong with a tape: each fault by its layer.
 ghost use mathlib.Core.Path.{_≡_};
 ghost use Rattle.tape.specs.declared.fault.CommandFault.the-variants.{Tape, Windows, NoMemory};
-ghost use Rattle.tape.specs.Faults.{tape-number, from-draft, placed};
+ghost use Rattle.tape.specs.Faults.{tape-number, from-draft, breach, placed};
 use draft::DraftRefusal;
 use draft::DraftRefusalDebug;
 use draft::DraftRefusalEq;
@@ -55,7 +55,7 @@ pub enum CommandFault {
 impl CommandFault {
     // The fault's number and layer; none where memory is wanting.
     pub fn placed(self) -> Option<(u8, Layer)>
-        ensures { λ r. ⌜ r ≡ placed self ⌝ }
+        ensures { λ r. ⌜ r ≡ placed (breach self) ⌝ }
     {
         match self {
             CommandFault::Tape(fault) => Some((fault.number(), Layer::Tape)),

@@ -1,7 +1,7 @@
 -- What a tape gives whose end has been read.
 use mathlib.Core.Path.{_≡_, refl, sym, ap, _∙_}
 use mathlib.Core.Bool.{true, false}
-use mathlib.Core.List.{List, _++_}
+use mathlib.Core.List.{List, [], _++_}
 use Prim.Native.Nat.{ℕ, _+_, _-_, _≤_}
 use native.Mathlib.Omega.{arith}
 use lib.Dec.{eqb}
@@ -21,7 +21,7 @@ use Rattle.tape.specs.declared.command.Command.{Command}
 use Rattle.tape.specs.declared.command.Command.the-variants.{End}
 use Rattle.tape.specs.declared.fault.CommandFault.the-variants.{Tape}
 use Rattle.tape.specs.declared.fault.TapeFault.the-variants.{TrailingBytes}
-use Rattle.tape.specs.declared.fault.Layer.{Layer}
+use Rattle.tape.specs.Faults.{Breach}
 use Rattle.tape.specs.declared.fault.Layer.the-variants as layer
 use Rattle.tape_reader.specs.declared.load.Load.{Load}
 use Rattle.tape_reader.specs.declared.reader.ReadRefusal.{ReadRefusal}
@@ -60,7 +60,7 @@ module _ (tape : List ℕ) (l : Progress) (xs : List ℕ) (at : Standing tape l 
       let o = standing-offset tape l xs at w in
       let here : length tape - length xs + 1 ≡ length tape - length rest = omega (arith, one-byte, o .2) in
       record {
-        answer = ap (faulty 74 layer.Tape) here ∙ sym (standing-end tape l xs at c rest (progress load) e r end ∙ cond-false (eqb (length rest) 0) _ _ some);
+        answer = ap (faulty 74 [] layer.Tape) here ∙ sym (standing-end tape l xs at c rest (progress load) e r end ∙ cond-false (eqb (length rest) 0) _ _ some);
         again = tt;
         few = tt;
       }
@@ -69,6 +69,6 @@ module _ (tape : List ℕ) (l : Progress) (xs : List ℕ) (at : Standing tape l 
   loaded-at-end = cond-both (eqb (length rest) 0) _ _ (Loads tape) nothing-follows bytes-follow
 
 -- A fault of the next command, by its number and layer, is what the tape gives; nothing is known where memory is wanting.
-pub standing-told : (tape : List ℕ) (l : Progress) (xs : List ℕ) → Standing tape l xs → (e : Option (ℕ × Layer)) → Fails e (next l xs) → Gives (fault-at e (length tape - length xs)) (decode tape) (Unit {0})
+pub standing-told : (tape : List ℕ) (l : Progress) (xs : List ℕ) → Standing tape l xs → (e : Option Breach) → Fails e (next l xs) → Gives (fault-at e (length tape - length xs)) (decode tape) (Unit {0})
 standing-told tape l xs at (Some e) f = sym (standing-fault tape l xs at e f)
 standing-told tape l xs at None f = tt

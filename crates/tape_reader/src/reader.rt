@@ -10,7 +10,7 @@ ghost use Rattle.std.specs.declared.result.Result.the-variants.{Ok, Err};
 ghost use Rattle.model.specs.Answers.{Gives};
 ghost use Rattle.draft.specs.Drafts.{module-of};
 ghost use Rattle.tape.specs.Commands.{bytes, encode};
-ghost use Rattle.tape.specs.Faults.{placed};
+ghost use Rattle.tape.specs.Faults.{breach};
 ghost use Rattle.tape_reader.specs.Loads.{progress, Fails, located, whole-tape, told-fault, given};
 ghost use Rattle.tape.specs.Loading.{next, decode, reading, done, contents};
 use crate::load::Load;
@@ -52,7 +52,7 @@ fn at<T>(answer: Result<T, CommandFault>, offset: u16) -> Result<T, ReadRefusal>
 
 // The next command, read and obeyed, and what follows it.
 fn step<'a>(load: &mut Load, tape: &'a [u8]) -> Result<(Command, &'a [u8]), CommandFault>
-    ensures answer { λ r. ⌜ Cases r (λ p. next (progress (now (load .entry))) (now (tape .entry)) ≡ Ok (p .0, now (p .1), progress (now (load .exit)))) (λ e. Fails (placed e) (next (progress (now (load .entry))) (now (tape .entry)))) ⌝ }
+    ensures answer { λ r. ⌜ Cases r (λ p. next (progress (now (load .entry))) (now (tape .entry)) ≡ Ok (p .0, now (p .1), progress (now (load .exit)))) (λ e. Fails (breach e) (next (progress (now (load .entry))) (now (tape .entry)))) ⌝ }
     ensures bytes { λ r. ⌜ made r (λ p. now (tape .entry) ≡ bytes (p .0) ++ now (p .1)) ⌝ }
 {
     let (command, rest) = next_command(load.turn, tape)?;

@@ -8,7 +8,7 @@ use Rattle.draft.proofs.Modules.{draft-within}
 use Rattle.tape.specs.Loading.{nothing-read, Progress}
 use Rattle.tape_reader.specs.Loads.{progress}
 use Rattle.std.proofs.shelf.Results.{err-from-errBy}
-use Rattle.tape.specs.Faults.{placed}
+use Rattle.tape.specs.Faults.{breach}
 use Rattle.tape_reader.proofs.Located.{located-ok, located-err}
 use Rattle.tape.proofs.Reading.{Standing, no-end, standing-start, standing-offset, standing-fault, standing-next}
 use Rattle.tape_reader.proofs.Whole.{loaded-at-end, standing-told}
@@ -35,7 +35,7 @@ returns-in-Break-command c =
     let p = err-from-errBy (c .from-residual .result) (c .from-residual .ensures .1) in
     let f = located-err (length tape - length xs) (c .step .result) (c .in-Break-command .field-0 .0) (sym (c .at .ensures) ∙ c .in-Break-command .was tt) in
     let fails = rw (f .1) at (c .step .ensures .answer) in
-    rw (p .1, p .2, f .2) (record { answer = standing-told tape (progress (c .loop-load .load)) xs (c .loop-load .inv) (placed (f .0)) fails; again = tt; few = tt })
+    rw (p .1, p .2, f .2) (record { answer = standing-told tape (progress (c .loop-load .load)) xs (c .loop-load .inv) (breach (f .0)) fails; again = tt; few = tt })
 
 pub ended-requires : need.ended-requires
 ended-requires c κs =
