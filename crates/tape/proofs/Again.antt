@@ -13,6 +13,8 @@ use Rattle.std.specs.declared.option.Option.{Option}
 use Rattle.std.specs.declared.option.Option.the-variants.{Some, None}
 use Rattle.std.specs.declared.result.Result.{Result}
 use Rattle.std.specs.declared.result.Result.the-variants.{Ok, Err}
+use Rattle.model.specs.Answers.{granted}
+use Rattle.model.specs.WindowLists.{list-answer, overlap}
 use Rattle.tape.specs.declared.command.Command.{Command}
 use Rattle.tape.specs.declared.command.Command.the-variants.{Partition, Task, Frame, Window, End}
 use Rattle.tape.specs.declared.command.Turn.{Turn}
@@ -64,7 +66,7 @@ module _ (xs : List ℕ) (fits : Bytes xs) (c : Command) (rest : List ℕ) where
 -- what is left of a tape without fault, once its end is read
 module _ (tape : List ℕ) (t : Contents) where
   Holds : Type 0
-  Holds = encode (t .partitions) (t .frame) (t .windows) ≡ tape
+  Holds = (list-answer overlap (t .frame) (t .windows) ≡ granted tt) × (encode (t .partitions) (t .frame) (t .windows) ≡ tape)
 
   module _ (l : Progress) (xs : List ℕ) (at : Standing tape l xs) (fits : Bytes xs) where
     module _ (c : Command) (rest : List ℕ) (then : Progress) (r : next l xs ≡ Ok (c, rest, then)) where
@@ -75,10 +77,11 @@ module _ (tape : List ℕ) (t : Contents) where
       at-end : is-end c ≡ true → ended (length tape) then rest ≡ done t → Holds
       unfolding Holds
       at-end end =
-          cond-both (eqb (length rest) 0) _ _ (λ d. d ≡ done t → encode (t .partitions) (t .frame) (t .windows) ≡ tape)
+          cond-both (eqb (length rest) 0) _ _ (λ d. d ≡ done t → (list-answer overlap (t .frame) (t .windows) ≡ granted tt) × (encode (t .partitions) (t .frame) (t .windows) ≡ tape))
           (λ none e.
           let same : contents then ≡ t = cc in
-          subst (λ t. encode (t .partitions) (t .frame) (t .windows) ≡ tape) same (standing-again tape l xs at c rest then front r end (eqb-true (length rest) 0 none) .0))
+          let again = standing-again tape l xs at c rest then front r end (eqb-true (length rest) 0 none) in
+            subst (λ t. (list-answer overlap (t .frame) (t .windows) ≡ granted tt) × (encode (t .partitions) (t .frame) (t .windows) ≡ tape)) same (again .2, again .0))
           (λ some e. let z : _≡_ {A = ℕ} 0 1 = cc in absurd (omega arith))
 
     by-next : (most : ℕ) → ((then : Progress) (rest : List ℕ) → Standing tape then rest → Bytes rest → decode-from most (length tape) then rest ≡ done t → Holds) → (r : Result (Command × List ℕ × Progress) Breach) → next l xs ≡ r → after-next (length tape - length xs) r (λ c rest then. cond (is-end c) (ended (length tape) then rest) (decode-from most (length tape) then rest)) ≡ done t → Holds

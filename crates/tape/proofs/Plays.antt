@@ -27,6 +27,7 @@ use Rattle.tape.specs.declared.fault.Layer.the-variants.{Draft, Windows}
 use Rattle.tape.specs.Commands.{task-command, partition-commands}
 use Rattle.tape.specs.Decode.{before-frame, in-partition}
 use Rattle.tape.specs.Loading.{Progress, newest, last-of, in-layer, obeyed, is-end}
+use Rattle.windows.proofs.Lists.{both-granted}
 use Rattle.tape.proofs.Commands.{follows}
 use Rattle.tape.proofs.SoFar.{with-newest}
 
@@ -112,10 +113,6 @@ last-is ws w =
     let n = length-append ws (w ∷ []) in
     let k : length ws ≡ length (ws ++ (w ∷ [])) - 1 = omega arith in
     nth-getD (ws ++ (w ∷ [])) (length (ws ++ (w ∷ [])) - 1) w (omega arith) ∙ ap Some (getD-at ws w [] w (length (ws ++ (w ∷ [])) - 1) k)
-
-pub both-granted : {A B : Type 0} (a : Answer A) (b : Answer B) (v : B) → and-then a b ≡ granted v → ((u : A) × (a ≡ granted u)) × (b ≡ granted v)
-both-granted (granted u) b v e = ((u, refl), e)
-both-granted (refused n vs) b v e = let z : _≡_ {A = ℕ} 0 1 = cc in absurd (omega arith)
 
 module _ (m : Module) (f : ℕ) where
   pub windows-play : (had ws : List ModelWindow) → length had + length ws ≤ 64 → windows-answer overlap f (length had) (last-of had) ws ≡ granted tt → Plays (reads m f had AfterFrame) (map Window ws) (reads m f (had ++ ws) AfterFrame)

@@ -4,14 +4,17 @@ use mathlib.Core.Bool.{Bool, true, false, cond}
 use mathlib.Core.List.{List, [], _∷_, _++_, map}
 use Prim.Native.Nat.{ℕ, zero, suc, _+_, _-_, _<_, _≤_}
 use native.Mathlib.Omega.{arith}
-use lib.Dec.{eqb}
+use lib.Dec.{eqb, leb}
 use lib.ListN.{length, getD}
 use Rattle.std.proofs.shelf.Lists.{append-assoc, append-nil, length-append}
-use Rattle.std.proofs.shelf.Tests.{cond-true, cond-false, eq-eqb, false≢true}
+use Rattle.std.proofs.shelf.Tests.{cond-true, cond-false, eq-eqb, le-leb, false≢true}
 use Rattle.std.specs.Joined.{joined}
+use Rattle.std.specs.declared.option.Option.the-variants.{None}
 use Rattle.std.specs.declared.result.Result.{Result}
 use Rattle.std.specs.declared.result.Result.the-variants.{Ok, Err}
 use Rattle.model.specs.declared.window.Window.{Window as ModelWindow}
+use Rattle.model.specs.Answers.{granted}
+use Rattle.model.specs.WindowLists.{overlap, frame-answer, count-answer, windows-answer, list-answer}
 use Rattle.model.specs.Modules.{Module, module-within}
 use Rattle.tape.specs.declared.command.Command.{Command}
 use Rattle.tape.specs.declared.command.Command.the-variants.{Partition, Task, Frame, Window, End}
@@ -22,10 +25,11 @@ use Rattle.tape.specs.declared.fault.Layer.the-variants.{Tape}
 use Rattle.tape.specs.Commands.{bytes, partition-commands, commands, encode}
 use Rattle.tape.specs.Decode.{command, in-turn, admits, operands, after-frame}
 use Rattle.tape.specs.Loading.{Progress, Contents, Reading, done, faulty, nothing-read, contents, obeyed, is-end, ended, after-obeyed, after-bytes, next, after-next, decode-from, decode}
+use Rattle.windows.proofs.Lists.{list-by-windows}
 use Rattle.tape.proofs.Commands.{follows, follows-read}
 use Rattle.tape.proofs.Lengths.{so-far-short}
 use Rattle.tape.proofs.Lists.{joined-append}
-use Rattle.tape.proofs.SoFar.{framed, the-frame, so-far, Orderly, Added, obeyed-adds}
+use Rattle.tape.proofs.SoFar.{framed, the-frame, so-far, Orderly, Accepted, accepted-so-far, obeyed-adds}
 
 -- A command that was read and obeyed was read, and was obeyed.
 
@@ -74,10 +78,11 @@ pub record Standing (tape : List ℕ) (l : Progress) (xs : List ℕ) : Type 0 wh
   pub split : tape ≡ joined bytes (so-far l) ++ xs
   pub orderly : Orderly (l .turn) (l .partitions) (l .windows)
   pub few : length (l .windows) ≤ 64
+  pub accepted : Accepted (l .turn) (l .frame) (l .windows)
   pub decides : (most : ℕ) × (length xs ≤ most) × (decode-from most (length tape) l xs ≡ decode tape)
 
 pub standing-start : (tape : List ℕ) → Standing tape nothing-read tape
-standing-start tape = record { split = refl; orderly = refl; few = omega arith; decides = (length tape, omega arith, refl) }
+standing-start tape = record { split = refl; orderly = refl; few = omega arith; accepted = tt; decides = (length tape, omega arith, refl) }
 
 one-more-byte : (cs : List Command) (c : Command) (more : List ℕ) → joined bytes (cs ++ (c ∷ [])) ++ more ≡ joined bytes cs ++ (bytes c ++ more)
 one-more-byte cs c more = simp (joined-append, append-nil, append-assoc)
@@ -99,6 +104,11 @@ no-end End n = absurd (n refl)
 none-left : (xs : List ℕ) → length xs ≡ 0 → xs ≡ []
 none-left [] e = refl
 none-left (x ∷ xs) e = absurd (omega arith)
+
+list-accepted : (f : ℕ) (ws : List ModelWindow) → length ws ≤ 64 → (frame-answer f ≡ granted tt) × (windows-answer overlap f 0 None ws ≡ granted tt) → list-answer overlap f ws ≡ granted tt
+list-accepted f ws h a =
+    let count : count-answer (length ws) ≡ granted tt = cond-true (leb (length ws) 64) _ _ (le-leb (length ws) 64 h) in
+    list-by-windows overlap f ws (sym (a .0)) (sym count) ∙ a .1
 
 all-commands : (m : Module) (f : ℕ) (ws : List ModelWindow) (t : Turn) → after-frame t ≡ true → commands m f ws ≡ (joined partition-commands m ++ framed t f ws) ++ (End ∷ [])
 all-commands m f ws t a = rw (the-frame t f ws a) (simp append-assoc)
@@ -129,12 +139,13 @@ module _ (tape : List ℕ) (l : Progress) (xs : List ℕ) (at : Standing tape l 
 
     pub standing-next : is-end c ≡ false → Standing tape then rest
     standing-next no-end =
-        let a = obeyed-adds l (at .orderly) (at .few) c then in-its-turn no-end carried-out in
+        let a = obeyed-adds l (at .orderly) (at .few) (at .accepted) c then in-its-turn no-end carried-out in
         let d = decode-next (length tape) l xs c rest then e r (at .decides .0) (at .decides .1) in
         record {
           split = at .split ∙ (ap (λ ys. joined bytes (so-far l) ++ ys) e ∙ (sym (one-more-byte (so-far l) c rest) ∙ ap (λ cs. joined bytes cs ++ rest) (sym (a .one-more))));
           orderly = a .orderly;
           few = a .few;
+          accepted = a .accepted;
           decides = (d .0, d .1, sym (cond-false (is-end c) _ _ no-end) ∙ (sym (d .2) ∙ at .decides .2));
         }
 
@@ -144,7 +155,7 @@ module _ (tape : List ℕ) (l : Progress) (xs : List ℕ) (at : Standing tape l 
         sym (at .decides .2) ∙ (d .2 ∙ cond-true (is-end c) _ _ end)
 
     -- at the end, what has been read is the tape
-    pub standing-again : is-end c ≡ true → length rest ≡ 0 → (encode (then .partitions) (then .frame) (then .windows) ≡ tape) × (length (then .windows) ≤ 64)
+    pub standing-again : is-end c ≡ true → length rest ≡ 0 → (encode (then .partitions) (then .frame) (then .windows) ≡ tape) × (length (then .windows) ≤ 64) × (list-answer overlap (then .frame) (then .windows) ≡ granted tt)
     standing-again end none =
         let i = the-end c end in
         let f : after-frame (l .turn) ≡ true = ap (follows (l .turn)) (sym i) ∙ in-its-turn in
@@ -154,4 +165,5 @@ module _ (tape : List ℕ) (l : Progress) (xs : List ℕ) (at : Standing tape l 
         at .split ∙ (ap (λ ys. joined bytes (so-far l) ++ ys) (e ∙ (ap (λ c. bytes c ++ rest) i ∙ ap (λ ys. 0x45 ∷ ys) (none-left rest none)))
         ∙ (sym (one-more-byte (so-far l) End []) ∙ (append-nil (joined bytes (so-far l ++ (End ∷ []))) ∙ ap (joined bytes) (sym (all-commands (l .partitions) (l .frame) (l .windows) (l .turn) f)))))
         in
-        subst (λ p. (encode (p .partitions) (p .frame) (p .windows) ≡ tape) × (length (p .windows) ≤ 64)) s (sym t, at .few)
+        let list = list-accepted (l .frame) (l .windows) (at .few) (accepted-so-far (l .turn) (l .frame) (l .windows) f (at .accepted)) in
+        subst (λ p. (encode (p .partitions) (p .frame) (p .windows) ≡ tape) × (length (p .windows) ≤ 64) × (list-answer overlap (p .frame) (p .windows) ≡ granted tt)) s (sym t, at .few, list)

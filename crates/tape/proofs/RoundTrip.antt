@@ -24,10 +24,11 @@ use Rattle.tape.specs.Commands.{bytes, partition-commands, commands, encode}
 use Rattle.tape.specs.Decode.{command, in-turn}
 use Rattle.tape.specs.Loading.{Progress, Contents, done, contents, nothing-read, obeyed, is-end, ended, after-obeyed, after-bytes, next, after-next, decode-from, decode}
 use Rattle.tape.specs.RoundTrip.{Reads-back, Short}
+use Rattle.windows.proofs.Lists.{both-granted}
 use Rattle.tape.proofs.Commands.{follows, command-there}
 use Rattle.tape.proofs.Lengths.{encode-short}
 use Rattle.tape.proofs.Lists.{joined-append}
-use Rattle.tape.proofs.Plays.{Plays, plays-append, reads, granted-ok, both-granted, after-partitions, still-before-all, partitions-play, windows-play}
+use Rattle.tape.proofs.Plays.{Plays, plays-append, reads, granted-ok, after-partitions, still-before-all, partitions-play, windows-play}
 use Rattle.tape.proofs.Reading.{bytes-some}
 use Rattle.tape.proofs.SoFar.{count-kept}
 

@@ -4,18 +4,21 @@ use mathlib.Core.Logic.{inl, inr}
 use mathlib.Core.Bool.{Bool, true, false}
 use mathlib.Core.List.{List, [], _∷_, _++_, map}
 use Prim.Native.Nat.{ℕ, _+_, _-_, _<_, _≤_}
+use native.Mathlib.Nat.{zero-add}
 use native.Mathlib.Omega.{arith}
 use lib.Dec.{leb}
 use lib.ListN.{length, getD, set}
 use Rattle.std.proofs.shelf.Lists.{append-assoc, append-nil, length-append, length-set, map-push, set-at, getD-at}
 use Rattle.std.proofs.shelf.Tests.{cond-true, cond-false, leb-true, cases-bool, false≢true, true≢false}
 use Rattle.std.specs.Joined.{joined}
-use Rattle.std.specs.declared.result.Result.the-variants.{Ok, Err}
+use Rattle.std.specs.Finite.{nth}
+use Rattle.std.specs.declared.option.Option.the-variants.{Some, None}
+use Rattle.std.specs.declared.result.Result.the-variants.{Ok}
 use Rattle.model.specs.declared.task.Task.{Task as ModelTask}
 use Rattle.model.specs.declared.window.Window.{Window as ModelWindow}
 use Rattle.model.specs.Answers.{Answer, granted, refused, and-then}
 use Rattle.model.specs.Modules.{Module, task}
-use Rattle.model.specs.WindowLists.{count-answer}
+use Rattle.model.specs.WindowLists.{overlap, frame-answer, count-answer, window-answer, windows-answer}
 use Rattle.draft.specs.Drafts.{with-partition, with-task}
 use Rattle.tape.specs.declared.command.Command.{Command}
 use Rattle.tape.specs.declared.command.Command.the-variants.{Partition, Task, Frame, Window, End}
@@ -24,7 +27,8 @@ use Rattle.tape.specs.declared.command.Turn.the-variants.{Start, AfterPartitio
 use Rattle.tape.specs.declared.fault.Layer.{Layer}
 use Rattle.tape.specs.Commands.{task-command, partition-commands}
 use Rattle.tape.specs.Decode.{before-frame, in-partition, after-frame}
-use Rattle.tape.specs.Loading.{Progress, newest, in-layer, obeyed, is-end}
+use Rattle.tape.specs.Loading.{Progress, newest, last-of, in-layer, obeyed, is-end}
+use Rattle.windows.proofs.Lists.{both-granted, last-or, windows-one-more}
 use Rattle.tape.proofs.Commands.{follows}
 use Rattle.tape.proofs.Lists.{joined-append, split-last}
 
@@ -44,6 +48,27 @@ Orderly Start m ws = ws ≡ []
 Orderly AfterPartition m ws = (0 < length m) × (ws ≡ [])
 Orderly AfterTask m ws = (0 < length m) × (ws ≡ [])
 Orderly AfterFrame m ws = Unit {0}
+
+-- once the frame is given, the window check accepts it with the windows so far
+abbrev pub Accepted : Turn → ℕ → List ModelWindow → Type 0
+Accepted Start f ws = Unit {0}
+Accepted AfterPartition f ws = Unit {0}
+Accepted AfterTask f ws = Unit {0}
+Accepted AfterFrame f ws = (frame-answer f ≡ granted tt) × (windows-answer overlap f 0 None ws ≡ granted tt)
+
+pub accepted-so-far : (t : Turn) (f : ℕ) (ws : List ModelWindow) → after-frame t ≡ true → Accepted t f ws → (frame-answer f ≡ granted tt) × (windows-answer overlap f 0 None ws ≡ granted tt)
+accepted-so-far Start f ws a h = absurd (false≢true a)
+accepted-so-far AfterPartition f ws a h = absurd (false≢true a)
+accepted-so-far AfterTask f ws a h = absurd (false≢true a)
+accepted-so-far AfterFrame f ws a h = h
+
+last-from : (w : ModelWindow) (ws : List ModelWindow) → nth (w ∷ ws) (length ws) ≡ last-or (Some w) ws
+last-from w [] = refl
+last-from w (v ∷ ws) = last-from v ws
+
+last-is-last : (ws : List ModelWindow) → last-of ws ≡ last-or None ws
+last-is-last [] = refl
+last-is-last (w ∷ ws) = let k : length (w ∷ ws) - 1 ≡ length ws = omega arith in ap (nth (w ∷ ws)) k ∙ last-from w ws
 
 no-windows : (t : Turn) (m : Module) (f : ℕ) (ws : List ModelWindow) → before-frame t ≡ true → Orderly t m ws → (framed t f ws ≡ []) × (ws ≡ [])
 no-windows Start m f ws b o = (refl, o)
@@ -123,8 +148,15 @@ pub record Added (l : Progress) (c : Command) (then : Progress) : Type 0 where
   pub one-more : so-far then ≡ so-far l ++ (c ∷ [])
   pub orderly : Orderly (then .turn) (then .partitions) (then .windows)
   pub few : length (then .windows) ≤ 64
+  pub accepted : Accepted (then .turn) (then .frame) (then .windows)
 
-module _ (l : Progress) (o : Orderly (l .turn) (l .partitions) (l .windows)) (few : length (l .windows) ≤ 64) where
+-- one window more that the window check accepts
+window-accepted : (f : ℕ) (ws : List ModelWindow) (w : ModelWindow) (v : Unit {0}) → windows-answer overlap f 0 None ws ≡ granted tt → and-then (count-answer (length ws + 1)) (window-answer overlap f (length ws) (last-of ws) w) ≡ granted v → windows-answer overlap f 0 None (ws ++ (w ∷ [])) ≡ granted tt
+window-accepted f ws w v a g =
+    let one = both-granted (count-answer (length ws + 1)) (window-answer overlap f (length ws) (last-of ws) w) v g .1 in
+    windows-one-more overlap f 0 None ws w a (ap (λ k. window-answer overlap f k (last-or None ws) w) (zero-add (length ws)) ∙ (ap (λ u. window-answer overlap f (length ws) u w) (sym (last-is-last ws)) ∙ one))
+
+module _ (l : Progress) (o : Orderly (l .turn) (l .partitions) (l .windows)) (few : length (l .windows) ≤ 64) (acc : Accepted (l .turn) (l .frame) (l .windows)) where
   pub obeyed-adds : (c : Command) (then : Progress) → follows (l .turn) c ≡ true → is-end c ≡ false → obeyed l c ≡ Ok then → Added l c then
   obeyed-adds Partition then b e r =
       let s = layer-ok _ _ _ then r in
@@ -133,6 +165,7 @@ module _ (l : Progress) (o : Orderly (l .turn) (l .partitions) (l .windows)) (fe
         one-more = adds-partition (l .partitions) (l .frame) (l .windows) (l .turn) o b;
         orderly = (with-partition-some (l .partitions), no .1);
         few = few;
+        accepted = tt;
       })
   obeyed-adds (Task c t d) then i e r =
       let s = layer-ok _ _ _ then r in
@@ -142,6 +175,7 @@ module _ (l : Progress) (o : Orderly (l .turn) (l .partitions) (l .windows)) (fe
         one-more = adds-task (l .partitions) (l .frame) (l .windows) (l .turn) o (task c t d) i;
         orderly = (with-task-some (l .partitions) (newest (l .partitions)) (task c t d) (p .1), no .1);
         few = few;
+        accepted = tt;
       })
   obeyed-adds (Frame f) then b e r =
       let s = layer-ok _ _ _ then r in
@@ -149,12 +183,15 @@ module _ (l : Progress) (o : Orderly (l .turn) (l .partitions) (l .windows)) (fe
         one-more = adds-frame (l .partitions) (l .frame) (l .windows) (l .turn) o f b;
         orderly = tt;
         few = few;
+        accepted = (s .0 .1, ap (windows-answer overlap f 0 None) (no-windows (l .turn) (l .partitions) (l .frame) (l .windows) b o .1));
       })
   obeyed-adds (Window w) then a e r =
       let s = layer-ok _ _ _ then r in
+      let was = accepted-so-far (l .turn) (l .frame) (l .windows) a acc in
       subst (Added l (Window w)) (s .1) (record {
         one-more = adds-window (l .partitions) (l .frame) (l .windows) (l .turn) o w a;
         orderly = tt;
         few = simp length-append (count-kept (length (l .windows) + 1) _ (s .0 .0) (s .0 .1));
+        accepted = (was .0, window-accepted (l .frame) (l .windows) w (s .0 .0) (was .1) (s .0 .1));
       })
   obeyed-adds End then a e r = absurd (true≢false e)

@@ -21,9 +21,11 @@ Reads-back =
 abbrev pub Bytes : List ℕ → Type 0
 Bytes xs = (i : ℕ) → getD xs i 0 < 256
 
--- a tape without fault is the tape of what it holds
+-- the window check accepts what a tape without fault holds, and the tape of that is the tape itself
 abbrev pub Writes-again : Type 0
-Writes-again = (xs : List ℕ) (t : Contents) → Bytes xs → decode xs ≡ done t → encode (t .partitions) (t .frame) (t .windows) ≡ xs
+Writes-again =
+    (xs : List ℕ) (t : Contents) → Bytes xs → decode xs ≡ done t →
+    (list-answer overlap (t .frame) (t .windows) ≡ granted tt) × (encode (t .partitions) (t .frame) (t .windows) ≡ xs)
 
 -- no tape of a module is longer than 1292 bytes
 abbrev pub Short : Type 0
