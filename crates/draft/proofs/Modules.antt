@@ -14,7 +14,7 @@ use Rattle.std.specs.declared.option.Option.{Option}
 use Rattle.std.specs.declared.option.Option.the-variants.{Some, None}
 use Rattle.model.specs.declared.task.Task.{Task}
 use Rattle.model.specs.Answers.{Answer, granted, refused, Gives, Granted, leaves-if}
-use Rattle.model.specs.Modules.{Module, task, task-within, tasks-of, within-limits, all-within, partition-within, partitions-within, module-within}
+use Rattle.model.specs.Modules.{task, task-within, tasks-of, within-limits, all-within, partition-within, partitions-within, module-within}
 use Rattle.draft.specs.declared.draft.Partition.{Partition}
 use Rattle.draft.specs.declared.draft.Draft.{Draft}
 use Rattle.draft.specs.Drafts.{tasks-in, module-of, Full, with-task, task-answer, task-answer-in}

@@ -1,4 +1,4 @@
-// A task by its three numbers, and the one way to make one.
+// A task by its three numbers.
 ghost use mathlib.Core.Path.{_≡_};
 ghost use Rattle.model.specs.Modules.{task-within};
 

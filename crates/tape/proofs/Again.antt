@@ -2,7 +2,7 @@
 use mathlib.Core.Path.{_≡_, refl, sym, ap, subst, _∙_}
 use mathlib.Core.Logic.{inl, inr}
 use mathlib.Core.Bool.{Bool, true, false, cond}
-use mathlib.Core.List.{List, [], _++_}
+use mathlib.Core.List.{List, _++_}
 use Prim.Native.Nat.{ℕ, zero, suc, _+_, _-_, _<_, _≤_}
 use native.Mathlib.Omega.{arith}
 use lib.Dec.{eqb, leb}
@@ -16,12 +16,12 @@ use Rattle.std.specs.declared.result.Result.the-variants.{Ok, Err}
 use Rattle.model.specs.Answers.{granted}
 use Rattle.model.specs.WindowLists.{list-answer, overlap}
 use Rattle.tape.specs.declared.command.Command.{Command}
-use Rattle.tape.specs.declared.command.Command.the-variants.{Partition, Task, Frame, Window, End}
+use Rattle.tape.specs.declared.command.Command.the-variants.{Partition, Task, Frame, End}
 use Rattle.tape.specs.declared.command.Turn.{Turn}
 use Rattle.tape.specs.Faults.{Breach}
 use Rattle.tape.specs.Commands.{bytes, encode}
 use Rattle.tape.specs.Decode.{word-at, whole, operands, in-turn, admits, command}
-use Rattle.tape.specs.Loading.{Progress, Contents, Reading, done, faulty, contents, nothing-read, is-end, ended, next, after-next, decode-from, decode}
+use Rattle.tape.specs.Loading.{Progress, Contents, done, contents, nothing-read, is-end, ended, next, after-next, decode-from}
 use Rattle.tape.specs.RoundTrip.{Bytes, Writes-again}
 use Rattle.tape.proofs.Reading.{Standing, standing-start, standing-next, standing-again, Parts, parts}
 use Rattle.tape.proofs.Words.{task-there, frame-there, window-there, byte-there}
@@ -81,7 +81,7 @@ module _ (tape : List ℕ) (t : Contents) where
           (λ none e.
           let same : contents then ≡ t = cc in
           let again = standing-again tape l xs at c rest then front r end (eqb-true (length rest) 0 none) in
-            subst (λ t. (list-answer overlap (t .frame) (t .windows) ≡ granted tt) × (encode (t .partitions) (t .frame) (t .windows) ≡ tape)) same (again .2, again .0))
+          subst (λ t. (list-answer overlap (t .frame) (t .windows) ≡ granted tt) × (encode (t .partitions) (t .frame) (t .windows) ≡ tape)) same (again .2, again .0))
           (λ some e. let z : _≡_ {A = ℕ} 0 1 = cc in absurd (omega arith))
 
     by-next : (most : ℕ) → ((then : Progress) (rest : List ℕ) → Standing tape then rest → Bytes rest → decode-from most (length tape) then rest ≡ done t → Holds) → (r : Result (Command × List ℕ × Progress) Breach) → next l xs ≡ r → after-next (length tape - length xs) r (λ c rest then. cond (is-end c) (ended (length tape) then rest) (decode-from most (length tape) then rest)) ≡ done t → Holds

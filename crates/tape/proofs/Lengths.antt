@@ -1,5 +1,5 @@
 -- How long tapes are: at most 1,292 bytes.
-use mathlib.Core.Path.{_≡_, refl, sym, ap, _∙_}
+use mathlib.Core.Path.{_≡_, refl, ap, _∙_}
 use mathlib.Core.Bool.{true}
 use mathlib.Core.List.{List, [], _∷_, _++_, map}
 use Prim.Native.Nat.{ℕ, _+_, _*_, _≤_}
@@ -12,7 +12,7 @@ use Rattle.std.specs.Joined.{joined}
 use Rattle.model.specs.declared.task.Task.{Task as ModelTask}
 use Rattle.model.specs.declared.window.Window.{Window as ModelWindow}
 use Rattle.model.specs.Modules.{Module, all-within, partition-within, partitions-within, module-within}
-use Rattle.tape.specs.declared.command.Command.the-variants.{Partition, Task, Frame, Window, End}
+use Rattle.tape.specs.declared.command.Command.the-variants.{Frame, Window, End}
 use Rattle.tape.specs.declared.command.Turn.{Turn}
 use Rattle.tape.specs.declared.command.Turn.the-variants.{Start, AfterPartition, AfterTask, AfterFrame}
 use Rattle.tape.specs.Commands.{bytes, task-command, partition-commands, encode}

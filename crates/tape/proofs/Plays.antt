@@ -1,8 +1,8 @@
 -- A module's commands are obeyed one after another, and leave the module.
 use mathlib.Core.Path.{_≡_, refl, sym, ap, subst, _∙_}
-use mathlib.Core.Bool.{Bool, true, false}
+use mathlib.Core.Bool.{true, false}
 use mathlib.Core.List.{List, [], _∷_, _++_, map}
-use Prim.Native.Nat.{ℕ, suc, _+_, _-_, _<_, _≤_}
+use Prim.Native.Nat.{ℕ, _+_, _-_, _<_, _≤_}
 use native.Mathlib.Omega.{arith}
 use lib.Dec.{leb, ltb}
 use lib.ListN.{length, getD}
@@ -10,18 +10,18 @@ use Rattle.std.proofs.shelf.Lists.{append-assoc, append-nil, length-append, get
 use Rattle.std.proofs.shelf.Maps.{nth-getD}
 use Rattle.std.proofs.shelf.Tests.{and-parts, cond-true, lt-ltb, le-leb, leb-true}
 use Rattle.std.specs.Joined.{joined}
-use Rattle.std.specs.declared.option.Option.the-variants.{Some, None}
-use Rattle.std.specs.declared.result.Result.the-variants.{Ok, Err}
+use Rattle.std.specs.declared.option.Option.the-variants.{Some}
+use Rattle.std.specs.declared.result.Result.the-variants.{Ok}
 use Rattle.model.specs.declared.task.Task.{Task as ModelTask}
 use Rattle.model.specs.declared.window.Window.{Window as ModelWindow}
-use Rattle.model.specs.Answers.{Answer, granted, refused, and-then}
+use Rattle.model.specs.Answers.{Answer, granted, and-then}
 use Rattle.model.specs.Modules.{Module, within-limits, all-within, partition-within, partitions-within}
-use Rattle.model.specs.WindowLists.{overlap, frame-answer, count-answer, window-answer, windows-answer}
+use Rattle.model.specs.WindowLists.{overlap, count-answer, window-answer, windows-answer}
 use Rattle.draft.specs.Drafts.{partition-answer, task-answer, task-answer-in, with-partition}
 use Rattle.tape.specs.declared.command.Command.{Command}
-use Rattle.tape.specs.declared.command.Command.the-variants.{Partition, Task, Frame, Window, End}
+use Rattle.tape.specs.declared.command.Command.the-variants.{Window}
 use Rattle.tape.specs.declared.command.Turn.{Turn}
-use Rattle.tape.specs.declared.command.Turn.the-variants.{Start, AfterPartition, AfterTask, AfterFrame}
+use Rattle.tape.specs.declared.command.Turn.the-variants.{AfterPartition, AfterTask, AfterFrame}
 use Rattle.tape.specs.declared.fault.Layer.{Layer}
 use Rattle.tape.specs.declared.fault.Layer.the-variants.{Draft, Windows}
 use Rattle.tape.specs.Commands.{task-command, partition-commands}

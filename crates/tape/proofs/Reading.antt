@@ -1,8 +1,8 @@
 -- One command after another: what is left of a tape decides what it gives.
 use mathlib.Core.Path.{_≡_, refl, sym, ap, subst, _∙_}
-use mathlib.Core.Bool.{Bool, true, false, cond}
-use mathlib.Core.List.{List, [], _∷_, _++_, map}
-use Prim.Native.Nat.{ℕ, zero, suc, _+_, _-_, _<_, _≤_}
+use mathlib.Core.Bool.{true, false, cond}
+use mathlib.Core.List.{List, [], _∷_, _++_}
+use Prim.Native.Nat.{ℕ, zero, suc, _-_, _<_, _≤_}
 use native.Mathlib.Omega.{arith}
 use lib.Dec.{eqb, leb}
 use lib.ListN.{length, getD}
@@ -19,12 +19,11 @@ use Rattle.model.specs.Modules.{Module, module-within}
 use Rattle.tape.specs.declared.command.Command.{Command}
 use Rattle.tape.specs.declared.command.Command.the-variants.{Partition, Task, Frame, Window, End}
 use Rattle.tape.specs.declared.command.Turn.{Turn}
-use Rattle.tape.specs.declared.command.Turn.the-variants.{Start, AfterPartition, AfterTask, AfterFrame}
 use Rattle.tape.specs.Faults.{Breach}
 use Rattle.tape.specs.declared.fault.Layer.the-variants.{Tape}
 use Rattle.tape.specs.Commands.{bytes, partition-commands, commands, encode}
 use Rattle.tape.specs.Decode.{command, in-turn, admits, operands, after-frame}
-use Rattle.tape.specs.Loading.{Progress, Contents, Reading, done, faulty, nothing-read, contents, obeyed, is-end, ended, after-obeyed, after-bytes, next, after-next, decode-from, decode}
+use Rattle.tape.specs.Loading.{Progress, faulty, nothing-read, obeyed, is-end, ended, after-obeyed, after-bytes, next, after-next, decode-from, decode}
 use Rattle.windows.proofs.Lists.{list-by-windows}
 use Rattle.tape.proofs.Commands.{follows, follows-read}
 use Rattle.tape.proofs.Lengths.{so-far-short}

@@ -1,28 +1,28 @@
 -- The round trip, both ways.
-use mathlib.Core.Path.{_≡_, refl, sym, ap, subst, _∙_}
-use mathlib.Core.Bool.{Bool, true, false, cond}
+use mathlib.Core.Path.{_≡_, refl, sym, ap, _∙_}
+use mathlib.Core.Bool.{true, cond}
 use mathlib.Core.List.{List, [], _∷_, _++_, map}
-use Prim.Native.Nat.{ℕ, zero, suc, _+_, _-_, _<_, _≤_}
+use Prim.Native.Nat.{ℕ, suc, _+_, _-_, _≤_}
 use native.Mathlib.Nat.{zero-add}
 use native.Mathlib.Omega.{arith}
-use lib.Dec.{leb, eqb}
-use lib.ListN.{length, getD}
-use Rattle.std.proofs.shelf.Lists.{append-assoc, append-nil, length-append}
-use Rattle.std.proofs.shelf.Tests.{and-parts, cond-true, cond-false, leb-true}
+use lib.Dec.{leb}
+use lib.ListN.{length}
+use Rattle.std.proofs.shelf.Lists.{append-assoc, length-append}
+use Rattle.std.proofs.shelf.Tests.{and-parts, cond-false, leb-true}
 use Rattle.std.specs.Joined.{joined}
 use Rattle.std.specs.declared.option.Option.the-variants.{Some, None}
-use Rattle.std.specs.declared.result.Result.the-variants.{Ok, Err}
+use Rattle.std.specs.declared.result.Result.the-variants.{Ok}
 use Rattle.model.specs.declared.window.Window.{Window as ModelWindow}
-use Rattle.model.specs.Answers.{Answer, granted, refused, and-then}
+use Rattle.model.specs.Answers.{granted, and-then}
 use Rattle.model.specs.Modules.{Module, partitions-within, module-within}
 use Rattle.model.specs.WindowLists.{overlap, frame-answer, count-answer, windows-answer, list-answer}
 use Rattle.tape.specs.declared.command.Command.{Command}
-use Rattle.tape.specs.declared.command.Command.the-variants.{Partition, Task, Frame, Window, End}
+use Rattle.tape.specs.declared.command.Command.the-variants.{Frame, Window, End}
 use Rattle.tape.specs.declared.command.Turn.the-variants.{Start, AfterFrame}
 use Rattle.tape.specs.declared.fault.Layer.the-variants.{Windows}
-use Rattle.tape.specs.Commands.{bytes, partition-commands, commands, encode}
-use Rattle.tape.specs.Decode.{command, in-turn}
-use Rattle.tape.specs.Loading.{Progress, Contents, done, contents, nothing-read, obeyed, is-end, ended, after-obeyed, after-bytes, next, after-next, decode-from, decode}
+use Rattle.tape.specs.Commands.{bytes, partition-commands, encode}
+use Rattle.tape.specs.Decode.{in-turn}
+use Rattle.tape.specs.Loading.{Progress, done, nothing-read, obeyed, is-end, ended, after-obeyed, after-bytes, next, after-next, decode-from, decode}
 use Rattle.tape.specs.RoundTrip.{Reads-back, Short}
 use Rattle.windows.proofs.Lists.{both-granted}
 use Rattle.tape.proofs.Commands.{follows, command-there}

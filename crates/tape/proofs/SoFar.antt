@@ -1,15 +1,15 @@
 -- The commands that have been read of a tape: each command that is obeyed adds itself.
 use mathlib.Core.Path.{_≡_, refl, sym, ap, subst, _∙_}
 use mathlib.Core.Logic.{inl, inr}
-use mathlib.Core.Bool.{Bool, true, false}
+use mathlib.Core.Bool.{true, false}
 use mathlib.Core.List.{List, [], _∷_, _++_, map}
 use Prim.Native.Nat.{ℕ, _+_, _-_, _<_, _≤_}
 use native.Mathlib.Nat.{zero-add}
 use native.Mathlib.Omega.{arith}
 use lib.Dec.{leb}
-use lib.ListN.{length, getD, set}
+use lib.ListN.{length, set}
 use Rattle.std.proofs.shelf.Lists.{append-assoc, append-nil, length-append, length-set, map-push, set-at, getD-at}
-use Rattle.std.proofs.shelf.Tests.{cond-true, cond-false, leb-true, cases-bool, false≢true, true≢false}
+use Rattle.std.proofs.shelf.Tests.{cond-false, leb-true, cases-bool, false≢true, true≢false}
 use Rattle.std.specs.Joined.{joined}
 use Rattle.std.specs.Finite.{nth}
 use Rattle.std.specs.declared.option.Option.the-variants.{Some, None}

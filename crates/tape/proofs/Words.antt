@@ -1,11 +1,11 @@
 -- Numbers in two bytes, and the bytes of a command at the front of a tape.
-use mathlib.Core.Path.{_≡_, refl, sym, ap, _∙_}
+use mathlib.Core.Path.{_≡_, sym, ap, _∙_}
 use mathlib.Core.List.{List, [], _∷_, _++_}
 use Prim.Native.Nat.{ℕ, _+_, _*_, _/_, _%_, _<_, _≤_}
 use native.Mathlib.Omega.{arith}
 use lib.ListN.{length, getD, drop}
 use Rattle.std.proofs.shelf.Lists.{drop-more}
-use Rattle.tape.specs.declared.command.Command.the-variants.{Partition, Task, Frame, Window, End}
+use Rattle.tape.specs.declared.command.Command.the-variants.{Task, Frame, Window}
 use Rattle.tape.specs.Commands.{word, bytes}
 use Rattle.tape.specs.Decode.{word-at}
 

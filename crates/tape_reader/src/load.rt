@@ -49,7 +49,7 @@ impl Load {
     }
 
     fn add_partition(&mut self) -> Result<(), CommandFault>
-        ensures { λ r. ⌜ Obeys r (obeyed (progress (now (self .entry))) Command.Partition) (progress (now (self .exit))) ⌝ }
+        ensures { λ r. ⌜ Obeys Command.Partition r (obeyed (progress (now (self .entry))) Command.Partition) (progress (now (self .exit))) ⌝ }
     {
         self.draft.add_partition()?;
         self.turn = Turn::AfterPartition;
@@ -57,7 +57,7 @@ impl Load {
     }
 
     fn add_task(&mut self, cost: u16, period: u16, deadline: u16) -> Result<(), CommandFault>
-        ensures { λ r. ⌜ Obeys r (obeyed (progress (now (self .entry))) (Command.Task cost period deadline)) (progress (now (self .exit))) ⌝ }
+        ensures { λ r. ⌜ Obeys (Command.Task cost period deadline) r (obeyed (progress (now (self .entry))) (Command.Task cost period deadline)) (progress (now (self .exit))) ⌝ }
     {
         let newest = self.draft.partition_count().saturating_sub(1);
         self.draft.add_task(newest, cost, period, deadline)?;
@@ -66,7 +66,7 @@ impl Load {
     }
 
     fn set_frame(&mut self, frame: u16) -> Result<(), CommandFault>
-        ensures { λ r. ⌜ Obeys r (obeyed (progress (now (self .entry))) (Command.Frame frame)) (progress (now (self .exit))) ⌝ }
+        ensures { λ r. ⌜ Obeys (Command.Frame frame) r (obeyed (progress (now (self .entry))) (Command.Frame frame)) (progress (now (self .exit))) ⌝ }
     {
         check_frame(frame)?;
         self.frame = frame;
@@ -76,7 +76,7 @@ impl Load {
 
     // 52, 53, 54.
     fn add_window(&mut self, window: Window) -> Result<(), CommandFault>
-        ensures { λ r. ⌜ Obeys r (obeyed (progress (now (self .entry))) (Command.Window window)) (progress (now (self .exit))) ⌝ }
+        ensures { λ r. ⌜ Obeys (Command.Window window) r (obeyed (progress (now (self .entry))) (Command.Window window)) (progress (now (self .exit))) ⌝ }
     {
         let index = self.windows.len();
         check_count(index + 1)?;
@@ -92,7 +92,7 @@ impl Load {
     }
 
     pub(crate) fn obey(&mut self, command: Command) -> Result<(), CommandFault>
-        ensures { λ r. ⌜ Obeys r (obeyed (progress (now (self .entry))) command) (progress (now (self .exit))) ⌝ }
+        ensures { λ r. ⌜ Obeys command r (obeyed (progress (now (self .entry))) command) (progress (now (self .exit))) ⌝ }
     {
         match command {
             Command::Partition => self.add_partition(),

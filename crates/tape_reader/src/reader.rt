@@ -1,17 +1,19 @@
 // The reader: a tape into a draft and a list of windows, or a fault, and then neither has changed.
 ghost use mathlib.Core.Path.{_≡_};
+ghost use mathlib.Core.Bool.{true};
 ghost use mathlib.Core.List.{_++_};
 ghost use Prim.Native.Nat.{_<_, _≤_};
-ghost use lib.ListN.{length, take, drop};
+ghost use lib.ListN.{length, getD, take, drop};
 ghost use Rattle.std.specs.Of.Vec.{vec-items, vec-len};
 ghost use Rattle.std.specs.Results.{Cases};
 ghost use Rattle.std.specs.Vec.{made};
 ghost use Rattle.std.specs.declared.result.Result.the-variants.{Ok, Err};
-ghost use Rattle.model.specs.Answers.{Gives};
+ghost use Rattle.model.specs.Answers.{Gives, granted};
+ghost use Rattle.model.specs.WindowLists.{list-answer, overlap};
 ghost use Rattle.draft.specs.Drafts.{module-of};
 ghost use Rattle.tape.specs.Commands.{bytes, encode};
 ghost use Rattle.tape.specs.Faults.{breach};
-ghost use Rattle.tape_reader.specs.Loads.{progress, Fails, located, whole-tape, told-fault, given};
+ghost use Rattle.tape_reader.specs.Loads.{progress, adds, Fails, Memory-wanted, located, whole-tape, told-fault, read-number, given};
 ghost use Rattle.tape.specs.Loading.{next, decode, reading, done, contents};
 use crate::load::Load;
 use draft::Draft;
@@ -33,6 +35,21 @@ pub enum ReadRefusal {
     Fault { fault: CommandFault, offset: u16 },
 }
 
+impl ReadRefusal {
+    // The number in the table of refusals; none where memory is wanting.
+    pub fn number(self) -> Option<u8>
+        ensures { λ r. ⌜ r ≡ read-number self ⌝ }
+    {
+        match self {
+            ReadRefusal::ShortList => Some(76),
+            ReadRefusal::Fault { fault, .. } => match fault.placed() {
+                Some((number, _)) => Some(number),
+                None => None,
+            },
+        }
+    }
+}
+
 // What a tape gave besides its tasks: how many windows, and the frame's length.
 #[derive(Clone, Copy, PartialEq, Eq, Debug)]
 pub struct Loaded {
@@ -52,7 +69,7 @@ fn at<T>(answer: Result<T, CommandFault>, offset: u16) -> Result<T, ReadRefusal>
 
 // The next command, read and obeyed, and what follows it.
 fn step<'a>(load: &mut Load, tape: &'a [u8]) -> Result<(Command, &'a [u8]), CommandFault>
-    ensures answer { λ r. ⌜ Cases r (λ p. next (progress (now (load .entry))) (now (tape .entry)) ≡ Ok (p .0, now (p .1), progress (now (load .exit)))) (λ e. Fails (breach e) (next (progress (now (load .entry))) (now (tape .entry)))) ⌝ }
+    ensures answer { λ r. ⌜ Cases r (λ p. next (progress (now (load .entry))) (now (tape .entry)) ≡ Ok (p .0, now (p .1), progress (now (load .exit)))) (λ e. Fails (adds (getD (now (tape .entry)) 0 0) ≡ true) (breach e) (next (progress (now (load .entry))) (now (tape .entry)))) ⌝ }
     ensures bytes { λ r. ⌜ made r (λ p. now (tape .entry) ≡ bytes (p .0) ++ now (p .1)) ⌝ }
 {
     let (command, rest) = next_command(load.turn, tape)?;
@@ -77,8 +94,9 @@ fn ended(load: Load, rest: &[u8], offset: u16) -> Result<Load, ReadRefusal>
 
 // The whole tape, read aside.
 fn load_tape(heap: Global, tape: &[u8]) -> Result<Load, ReadRefusal>
-    ensures answer { λ r. ⌜ Cases r (λ l. decode (now (tape .entry)) ≡ done (contents (progress l))) (λ e. Gives (told-fault e) (decode (now (tape .entry))) (Unit {0})) ⌝ }
+    ensures answer { λ r. ⌜ Cases r (λ l. decode (now (tape .entry)) ≡ done (contents (progress l))) (λ e. Gives (told-fault e) (decode (now (tape .entry))) (Memory-wanted 64 (now (tape .entry)) e)) ⌝ }
     ensures again { λ r. ⌜ made r (λ l. encode (module-of (l .draft)) (l .frame) (vec-items (l .windows)) ≡ now (tape .entry)) ⌝ }
+    ensures accepted { λ r. ⌜ made r (λ l. list-answer overlap (l .frame) (vec-items (l .windows)) ≡ granted tt) ⌝ }
     ensures few { λ r. ⌜ made r (λ l. vec-len (l .windows) ≤ 64) ⌝ }
 {
     let mut load = Load::new(heap);
@@ -123,10 +141,11 @@ pub fn read(
     draft: &mut Draft,
     windows: &mut [Window],
 ) -> Result<Loaded, ReadRefusal>
-    ensures answer { λ r. ⌜ Cases r (λ x. reading (length (now (windows .entry))) (now (tape .entry)) ≡ done (given (module-of (now (draft .exit))) x (now (windows .exit)))) (λ e. Gives (told-fault e) (reading (length (now (windows .entry))) (now (tape .entry))) (Unit {0})) ⌝ }
+    ensures answer { λ r. ⌜ Cases r (λ x. reading (length (now (windows .entry))) (now (tape .entry)) ≡ done (given (module-of (now (draft .exit))) x (now (windows .exit)))) (λ e. Gives (told-fault e) (reading (length (now (windows .entry))) (now (tape .entry))) (Memory-wanted (length (now (windows .entry))) (now (tape .entry)) e)) ⌝ }
     ensures count { λ r. ⌜ made r (λ x. x .windows ≤ length (now (windows .exit))) ⌝ }
     ensures later { λ r. ⌜ made r (λ x. drop (x .windows) (now (windows .exit)) ≡ drop (x .windows) (now (windows .entry))) ⌝ }
     ensures unchanged { λ r. ⌜ Cases r (λ _. Unit {0}) (λ _. (now (draft .exit) ≡ now (draft .entry)) × (now (windows .exit) ≡ now (windows .entry))) ⌝ }
+    ensures accepted { λ r. ⌜ made r (λ x. list-answer overlap (x .frame) (take (x .windows) (now (windows .exit))) ≡ granted tt) ⌝ }
     ensures again { λ r. ⌜ made r (λ x. encode (module-of (now (draft .exit))) (x .frame) (take (x .windows) (now (windows .exit))) ≡ now (tape .entry)) ⌝ }
 {
     if windows.len() < 64 {

@@ -1,5 +1,5 @@
 -- The front of a buffer, written command by command.
-use mathlib.Core.Path.{_≡_, refl, sym, ap, _∙_}
+use mathlib.Core.Path.{_≡_, sym, ap, _∙_}
 use mathlib.Core.List.{List, [], _∷_, _++_, map}
 use Prim.Native.Nat.{ℕ, _+_, _-_, _≤_}
 use native.Mathlib.Omega.{arith}
@@ -17,9 +17,6 @@ use Rattle.tape.proofs.Lists.{joined-append, joined-joined}
 pub record Written (bs : List ℕ) (end : ℕ) (out was : List ℕ) : Type 0 where
   pub count : end ≡ length bs
   pub after : out ≡ bs ++ drop end was
-
-pub written-none : (out : List ℕ) → Written [] 0 out out
-written-none out = record { count = refl; after = refl }
 
 -- more is written at the start of the part of the buffer that is left
 pub written-more : (bs es out was new : List ℕ) (end n : ℕ) → Written bs end out was → end ≤ length out → n ≡ length es → new ≡ es ++ drop n (take (length out - end) (drop end out)) → Written (bs ++ es) (end + n) (putMid end (length out - end) out new) was

@@ -1,13 +1,13 @@
 -- How one window decides for a list: for the list check, and for tapes, which check window by window.
 use mathlib.Core.Path.{_≡_, refl, sym, ap, _∙_}
 use mathlib.Core.List.{List, [], _∷_, _++_}
-use Prim.Native.Nat.{ℕ, _+_, _<_, _≤_}
+use Prim.Native.Nat.{ℕ, _+_, _<_}
 use native.Mathlib.Nat.{add-zero}
 use native.Mathlib.Omega.{arith}
 use lib.ListN.{length, getD, drop}
 use Rattle.std.specs.declared.option.Option.{Option}
 use Rattle.std.specs.declared.option.Option.the-variants.{Some, None}
-use Rattle.std.proofs.shelf.Lists.{at-drop-more, at-drop-all}
+use Rattle.std.proofs.shelf.Lists.{at-drop-more}
 use Rattle.model.specs.Answers.{Answer, granted, refused, and-then}
 use Rattle.model.specs.declared.window.Window.{Window}
 use Rattle.model.specs.WindowLists.{Neighbours, frame-answer, count-answer, window-answer, windows-answer, list-answer}

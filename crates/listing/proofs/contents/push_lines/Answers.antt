@@ -1,7 +1,7 @@
 use mathlib.Core.Path.{_≡_, sym, ap, _∙_}
 use mathlib.Core.List.{List, map, _++_}
 use Prim.Native.Nat.{ℕ}
-use lib.ListN.{length, take}
+use lib.ListN.{take}
 use Rattle.std.proofs.shelf.Lists.{append-assoc, take-all, length-map}
 use Rattle.std.specs.Joined.{joined}
 use Rattle.std.specs.Of.String.{string-bytes}

@@ -1,16 +1,13 @@
-use borrow.Author.Needs.{needs}
-use mathlib.Core.Path.{_≡_, sym, ap, subst, _∙_}
-use mathlib.Core.List.{List}
-use Prim.Native.Nat.{ℕ, _-_}
+use mathlib.Core.Path.{sym, subst, _∙_}
+use Prim.Native.Nat.{_-_}
 use native.Mathlib.Omega.{arith}
 use lib.ListN.{length}
 use Rattle.draft.proofs.Modules.{draft-within}
-use Rattle.tape.specs.Loading.{nothing-read, Progress}
 use Rattle.tape_reader.specs.Loads.{progress}
 use Rattle.std.proofs.shelf.Results.{err-from-errBy}
 use Rattle.tape.specs.Faults.{breach}
 use Rattle.tape_reader.proofs.Located.{located-ok, located-err}
-use Rattle.tape.proofs.Reading.{Standing, no-end, standing-start, standing-offset, standing-fault, standing-next}
+use Rattle.tape.proofs.Reading.{Standing, no-end, standing-start, standing-offset, standing-next}
 use Rattle.tape_reader.proofs.Whole.{loaded-at-end, standing-told}
 use Rattle.tape_reader.proofs.reader.load_tape.Needs as need
 
@@ -35,7 +32,7 @@ returns-in-Break-command c =
     let p = err-from-errBy (c .from-residual .result) (c .from-residual .ensures .1) in
     let f = located-err (length tape - length xs) (c .step .result) (c .in-Break-command .field-0 .0) (sym (c .at .ensures) ∙ c .in-Break-command .was tt) in
     let fails = rw (f .1) at (c .step .ensures .answer) in
-    rw (p .1, p .2, f .2) (record { answer = standing-told tape (progress (c .loop-load .load)) xs (c .loop-load .inv) (breach (f .0)) fails; again = tt; few = tt })
+    rw (p .1, p .2, f .2) (record { answer = standing-told tape (progress (c .loop-load .load)) xs (c .loop-load .inv) (draft-within (c .loop-load .load .draft)) (breach (f .0)) fails; again = tt; accepted = tt; few = tt })
 
 pub ended-requires : need.ended-requires
 ended-requires c κs =

@@ -1,12 +1,11 @@
 use mathlib.Core.Path.{_≡_, sym, ap, subst, _∙_}
-use mathlib.Core.List.{List, map, _++_}
-use Prim.Native.Nat.{ℕ, _+_, _-_, _≤_}
+use mathlib.Core.List.{map, _++_}
+use Prim.Native.Nat.{_+_, _-_, _≤_}
 use native.Mathlib.Omega.{arith}
 use lib.ListN.{length, take, drop, length-take, length-drop}
 use borrow.Rule.Slice.PartMut.{putMid}
 use Rattle.std.proofs.shelf.Lists.{take-all, length-map}
 use Rattle.std.specs.Joined.{joined}
-use Rattle.tape.specs.declared.command.Command.{Command}
 use Rattle.tape.specs.Commands.{bytes}
 use Rattle.tape.proofs.Lists.{mapped-on}
 use Rattle.tape_writer.proofs.Written.{Written, written-more}

@@ -1,10 +1,8 @@
-use mathlib.Core.Path.{_≡_, sym, ap, _∙_}
+use mathlib.Core.Path.{ap}
 use mathlib.Core.List.{[]}
-use Prim.Native.Nat.{ℕ, _+_, _*_, _<_, _≤_}
 use native.Mathlib.Omega.{arith}
-use lib.ListN.{length, getD, drop}
+use lib.ListN.{length}
 use Rattle.std.proofs.shelf.Lists.{at-drop-more, at-drop-all}
-use Rattle.model.specs.Modules.{tasks-of}
 use Rattle.draft.specs.Drafts.{module-of}
 use Rattle.draft.proofs.Modules.{draft-within}
 use Rattle.tape.proofs.Lengths.{partitions-size, module-short, encode-length}

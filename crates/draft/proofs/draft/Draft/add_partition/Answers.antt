@@ -1,6 +1,5 @@
 use mathlib.Core.Path.{refl, sym, ap, _∙_}
 use native.Mathlib.Omega.{arith}
-use Prim.Native.Nat.{_≤_}
 use mathlib.Core.List.{[], _∷_, _++_, map}
 use lib.ListN.{length}
 use Rattle.std.proofs.shelf.Lists.{map-push}

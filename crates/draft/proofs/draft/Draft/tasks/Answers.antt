@@ -1,11 +1,9 @@
-use mathlib.Core.Path.{_≡_, sym, _∙_}
-use mathlib.Core.List.{[], map}
-use Prim.Native.Nat.{_<_, _≤_}
+use mathlib.Core.Path.{sym, _∙_}
+use mathlib.Core.List.{[]}
 use native.Mathlib.Omega.{arith}
-use lib.ListN.{length}
-use Rattle.std.proofs.shelf.Lists.{length-map, getD-past}
+use Rattle.std.proofs.shelf.Lists.{getD-past}
 use Rattle.std.specs.Of.Vec.{vec-items}
-use Rattle.draft.specs.Drafts.{tasks-in, module-of}
+use Rattle.draft.specs.Drafts.{module-of}
 use Rattle.draft.proofs.Modules.{module-length, tasks-at}
 use Rattle.draft.proofs.draft.Draft.tasks.Needs as need
 
