@@ -2,10 +2,12 @@
 use listing::listing;
 use std::test::*;
 
-const TAPES: [(&[u8], &str); 25] = [
+const TAPES: [(&[u8], &str); 27] = [
     (b"", "refused 71 tape 0\n"),
     (b"\x00", "refused 72 tape 0\n"),
     (b"\xff\xff", "refused 72 tape 0\n"),
+    (b"\x50\x00", "refused 72 tape 1\n"),
+    (b"\x46\x00\x01\x00", "refused 72 tape 3\n"),
     (b"\x50", "refused 71 tape 1\n"),
     (b"\x50\x54\x00", "refused 71 tape 1\n"),
     (b"\x50\x54\x00\x01\x00\x01\x00", "refused 71 tape 1\n"),

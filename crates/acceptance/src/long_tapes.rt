@@ -7,6 +7,7 @@ use model::WindowPartialEq;
 use std::alloc::AllocError;
 use std::alloc::Global;
 use std::test::*;
+use tape::CommandFault;
 use tape_reader::Loaded;
 use tape_reader::LoadedDebug;
 use tape_reader::LoadedPartialEq;
@@ -14,6 +15,11 @@ use tape_reader::ReadRefusal;
 use tape_reader::ReadRefusalDebug;
 use tape_reader::ReadRefusalPartialEq;
 use tape_reader::read;
+use tape_writer::WriteRefusal;
+use tape_writer::WriteRefusalDebug;
+use tape_writer::WriteRefusalPartialEq;
+use tape_writer::write;
+use windows::WindowRefusal;
 
 const TASK: [u8; 7] = [0x54, 0, 1, 0, 100, 0, 100];
 
@@ -115,6 +121,27 @@ fn longest_tape(rt: LibcRuntime) -> Result<(), Fail> {
     check_listing(heap, &tape, "refused 74 tape 1292\n")
 }
 
+// What was read is written again: into 1,292 bytes, and not into 1,291.
+#[test]
+fn longest_tape_written(rt: LibcRuntime) -> Result<(), Fail> {
+    let heap = rt.alloc();
+    let tape = longest(heap)?;
+    let mut draft = Draft::new(heap);
+    let mut list = [UNTOUCHED; 64];
+    let loaded = read(heap, tape.as_slice(), &mut draft, &mut list)?;
+    let mut buffer = [0u8; 1292];
+    check_eq(
+        write(&draft, loaded.frame, &list, &mut buffer[0..1291]),
+        Err(WriteRefusal::ShortBuffer),
+    )?;
+    check_eq(write(&draft, loaded.frame, &list, &mut buffer), Ok(1292))?;
+    for (i, byte) in tape.iter().enumerate() {
+        check(i < 1292)?;
+        check_eq(buffer[i], *byte)?;
+    }
+    Ok(())
+}
+
 // A list of 63 places is refused before the tape is looked at; a refusal leaves draft and list as they were.
 #[test]
 fn refusals_leave_all(rt: LibcRuntime) -> Result<(), Fail> {
@@ -126,14 +153,11 @@ fn refusals_leave_all(rt: LibcRuntime) -> Result<(), Fail> {
         read(heap, b"", &mut draft, &mut list[0..63]),
         Err(ReadRefusal::ShortList),
     )?;
+    let overlapping = b"\x46\x00\x0a\x57\x00\x00\x00\x00\x04\x57\x01\x00\x03\x00\x01\x45";
+    let fault = CommandFault::Windows(WindowRefusal::Overlap { window: 1 });
     check_eq(
-        read(
-            heap,
-            b"\x46\x00\x0a\x57\x01\x00\x00\x00\x04",
-            &mut draft,
-            &mut list,
-        ).is_err(),
-        true,
+        read(heap, overlapping, &mut draft, &mut list),
+        Err(ReadRefusal::Fault { fault, offset: 9 }),
     )?;
     check_eq(draft.partition_count(), 1)?;
     check_eq(list[0], UNTOUCHED)?;
