@@ -17,7 +17,11 @@ impl Task {
         ensures { λ r. ⌜ r ≡ task-within cost period deadline ⌝ }
     {
         if 1 <= cost && cost <= deadline && deadline <= period && period <= 4096 {
-            Some(Task { cost, period, deadline })
+            Some(Task {
+                cost,
+                period,
+                deadline,
+            })
         } else {
             None
         }
