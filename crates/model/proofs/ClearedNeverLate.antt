@@ -15,7 +15,7 @@ use Rattle.model.specs.Modules.{Has-task, Module, Task, tasks-of}
 use Rattle.model.specs.Orders.{Can-exist, Order, record-of}
 use Rattle.model.specs.Promises.{Never-late}
 use Rattle.model.specs.SupplyFacts.{Repeats}
-use Rattle.model.specs.Timetables.{Timetable, owned-by, owner-at, total}
+use Rattle.model.specs.Timetables.{Timetable, owned-by, owner-at}
 use Rattle.model.specs.Verdicts.{All-in-time, Lawful}
 use Rattle.model.proofs.InTimeNeeded.{late-open}
 use Rattle.model.proofs.InTimeSuffices.{Inv, begins, not-late, step-keeps}

@@ -16,3 +16,7 @@ pub mod Isolation
 pub mod Ranges
 pub mod Exactness
 pub mod Punctuality
+pub mod Verdicts
+pub mod Planning
+pub mod Timetables
+pub mod Orders

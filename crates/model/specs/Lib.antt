@@ -12,3 +12,4 @@ pub mod Machine
 pub mod FlightRecords
 pub mod Promises
 pub mod SupplyFacts
+pub mod Decisions

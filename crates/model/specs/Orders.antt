@@ -34,3 +34,7 @@ listed p a b = ltb (a .number) (b .number)
 abbrev pub by-deadline : Order
 by-deadline p a b =
     ltb (a .task .deadline) (b .task .deadline) || (eqb (a .task .deadline) (b .task .deadline) && listed p a b)
+
+-- Both keep the law.
+abbrev pub Orders-are-lawful : Type 0
+Orders-are-lawful = Lawful-order listed × Lawful-order by-deadline

@@ -1,18 +1,17 @@
 -- Shortest windows: the least share of the frame with which a partition's tasks are in time, and the plan made of them.
-use mathlib.Core.Path.{_≡_}
-use mathlib.Core.Bool.{Bool, true, cond}
+use mathlib.Core.Bool.{Bool, cond}
 use mathlib.Core.List.{List, [], _∷_, _++_}
 use Prim.Native.Nat.{ℕ, _+_, _%_, _≤_, _<_}
 use lib.Dec.{leb, ltb, eqb}
 use lib.ListN.{length, drop}
 use Rattle.std.specs.declared.option.Option.{Option}
 use Rattle.std.specs.declared.option.Option.the-variants.{Some, None}
+use Rattle.std.specs.shelf.Lists.{sum}
 use Rattle.model.specs.Modules.{Task, Module}
 use Rattle.model.specs.Answers.{Answer, granted, refused, no-memory, and-then}
 use Rattle.model.specs.WindowLists.{Window, frame-answer}
-use Rattle.model.specs.Timetables.{total}
 use Rattle.model.specs.Orders.{Order}
-use Rattle.model.specs.InTime.{Partition, partition-of, size, In-time, all-in-time}
+use Rattle.model.specs.InTime.{Partition, partition-of, In-time, all-in-time}
 use Rattle.model.specs.Ranges.{least-below}
 
 -- the ticks at places 0 to q - 1 of a frame of f ticks
@@ -63,7 +62,7 @@ end-to-end p x (q ∷ qs) =
 
 -- the windows, unless they are too long for the frame
 unfoldable pub windows-for : ℕ → Answer (List ℕ) → Answer (List Window)
-windows-for f (granted qs) = cond (leb (total qs) f) (granted (end-to-end 0 0 qs)) (refused 62 [])
+windows-for f (granted qs) = cond (leb (sum qs) f) (granted (end-to-end 0 0 qs)) (refused 62 [])
 windows-for f (refused n vs) = refused n vs
 windows-for f no-memory = no-memory
 

@@ -4,8 +4,10 @@ use mathlib.Core.Bool.{Bool, false, cond, _&&_}
 use mathlib.Core.List.{List, [], _∷_}
 use Prim.Native.Nat.{ℕ, _+_, _-_, _%_, _≤_, _<_}
 use lib.Dec.{leb, ltb, eqb}
+use lib.ListN.{length}
 use Rattle.std.specs.declared.option.Option.{Option}
 use Rattle.std.specs.declared.option.Option.the-variants.{Some, None}
+use Rattle.std.specs.shelf.Lists.{sum}
 use Rattle.model.specs.Answers.{Answer, granted, refused, no-memory, and-then}
 use Rattle.model.specs.WindowLists.{Window, Neighbours, end-of, frame-answer, list-answer}
 
@@ -55,14 +57,9 @@ window-timetable rule f ws = opened (list-answer rule f ws) (record { frame = f;
 
 -- Share cycles.
 
--- what the shares add to
-unfoldable pub total : List ℕ → ℕ
-total [] = 0
-total (n ∷ ns) = n + total ns
-
 -- the frame has 1 to 1024 ticks, and the shares add to no more
 abbrev pub cycle-answer : ℕ → List ℕ → Answer (Unit {0})
-cycle-answer f shares = and-then (frame-answer f) (cond (leb (total shares) f) (granted tt) (refused 55 []))
+cycle-answer f shares = and-then (frame-answer f) (cond (leb (sum shares) f) (granted tt) (refused 55 []))
 
 -- partition p owns the first places, as many as its share, partition p + 1 the next, and so on; what is left is nobody's
 unfoldable pub share-owner : ℕ → List ℕ → ℕ → Option ℕ
@@ -76,3 +73,9 @@ share-timetable f shares = opened (cycle-answer f shares) (record { frame = f; o
 -- Shifts: place x of the shifted timetable is the place x + k below.
 abbrev pub shifted : Timetable → ℕ → Timetable
 shifted t k = record { frame = t .frame; owner = λ x. t .owner ((x + k) % t .frame) }
+
+-- What these mean keeps the law: opened lists, opened cycles of at most eight shares, and shifts of what keeps it.
+pub record Timetables-are-lawful : Type 0 where
+  pub windows : (rule : Neighbours) (f : ℕ) (ws : List Window) → Lawful-timetable (window-timetable rule f ws)
+  pub cycles : (f : ℕ) (shares : List ℕ) → length shares ≤ 8 → Lawful-timetable (share-timetable f shares)
+  pub shifts : (t : Timetable) (k : ℕ) → Lawful-timetable t → Lawful-timetable (shifted t k)

@@ -1,7 +1,10 @@
 // The theorems on the definitions of specs/. Each stands on the contract of a function that does nothing else, so the
 // crate is proved only with all of them.
+ghost use Rattle.model.specs.Decisions.{Tests-decide, Verdict-is-decided, Least-q-is-decided};
+ghost use Rattle.model.specs.Orders.{Orders-are-lawful};
 ghost use Rattle.model.specs.Promises.{Punctual, Exact, Isolated, Faithful, Any-rule};
 ghost use Rattle.model.specs.SupplyFacts.{Supply-facts, Starts-that-decide};
+ghost use Rattle.model.specs.Timetables.{Timetables-are-lawful};
 
 // Every job of a cleared module is ended or has run its full cost by its deadline.
 pub fn punctual_holds() -> u8
@@ -48,6 +51,41 @@ pub fn supply_facts_hold() -> u8
 // Start 0 and the starts that begin a gap decide; with the first q places, one start does.
 pub fn deciding_starts_hold() -> u8
     ensures { λ _. ⌜ Starts-that-decide ⌝ }
+{
+    0
+}
+
+// Passing, being in time and being cleared are what their tests compute.
+pub fn tests_decide() -> u8
+    ensures { λ _. ⌜ Tests-decide ⌝ }
+{
+    0
+}
+
+// The verdict is the one whose statement holds.
+pub fn verdict_is_decided() -> u8
+    ensures { λ _. ⌜ Verdict-is-decided ⌝ }
+{
+    0
+}
+
+// The least q is the least that is enough.
+pub fn least_q_is_decided() -> u8
+    ensures { λ _. ⌜ Least-q-is-decided ⌝ }
+{
+    0
+}
+
+// Opened window lists and share cycles, and shifts, are lawful timetables.
+pub fn timetables_are_lawful() -> u8
+    ensures { λ _. ⌜ Timetables-are-lawful ⌝ }
+{
+    0
+}
+
+// The listed order and the deadline order are lawful.
+pub fn orders_are_lawful() -> u8
+    ensures { λ _. ⌜ Orders-are-lawful ⌝ }
 {
     0
 }

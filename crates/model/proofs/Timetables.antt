@@ -1,0 +1,95 @@
+-- Opened window lists, opened share cycles and shifts keep the law of timetables.
+use mathlib.Core.Bool.{Bool, _&&_, cond, false, true}
+use mathlib.Core.List.{List, [], _∷_}
+use mathlib.Core.Logic.{_⊎_, inl, inr}
+use mathlib.Core.Path.{_≡_, refl}
+use Prim.Native.Nat.{_%_, _+_, _-_, _<_, _≤_, ℕ}
+use native.Mathlib.Nat.{mod-lt}
+use native.Mathlib.Omega.{arith}
+use lib.Dec.{leb, ltb}
+use lib.ListN.{length}
+use Rattle.std.specs.declared.option.Option.{Option}
+use Rattle.std.specs.declared.option.Option.the-variants.{None, Some}
+use Rattle.std.proofs.shelf.Tests.{and-parts, leb-true}
+use Rattle.model.specs.Answers.{Answer, and-then, granted, no-memory, refused}
+use Rattle.model.specs.Timetables.{Lawful-timetable, Timetable, Timetables-are-lawful, bare-frame, covers, cycle-answer, opened, share-owner, share-timetable, shifted, window-owner, window-timetable}
+use Rattle.model.specs.WindowLists.{Neighbours, Window, count-answer, frame-answer, in-frame, list-answer, window-answer, windows-answer}
+
+abbrev Grants : Answer (Unit {0}) → Type 0
+Grants a = (u : Unit {0}) × (a ≡ granted u)
+
+refuses : (n : ℕ) (vs : List ℕ) (u : Unit {0}) → _≡_ {A = Answer (Unit {0})} (refused n vs) (granted u) → ⊥
+refuses n vs u e = let z : _≡_ {A = ℕ} 0 1 = cc in omega arith
+
+both-grant : (a b : Answer (Unit {0})) → Grants (and-then a b) → Grants a × Grants b
+both-grant (granted u) b h = ((u, refl), h)
+both-grant (refused n vs) b h = absurd (refuses n vs (h .0) (h .1))
+both-grant no-memory b h = let z : _≡_ {A = ℕ} 0 1 = cc in absurd (omega arith)
+
+if-granted : (b : Bool) (a : Answer (Unit {0})) (n : ℕ) (vs : List ℕ) → Grants (cond b a (refused n vs)) → b ≡ true
+if-granted true a n vs h = refl
+if-granted false a n vs h = absurd (refuses n vs (h .0) (h .1))
+
+frame-granted : (f : ℕ) → Grants (frame-answer f) → (1 ≤ f) × (f ≤ 1024)
+frame-granted f h = let v = and-parts (leb 1 f) (leb f 1024) (if-granted (leb 1 f && leb f 1024) (granted tt) 51 [] h) in (leb-true _ _ (v .0), leb-true _ _ (v .1))
+
+nobody : (p : ℕ) → _≡_ {A = Option ℕ} None (Some p) → ⊥
+nobody p e = let z : _≡_ {A = ℕ} 0 1 = cc in omega arith
+
+bare-lawful : Lawful-timetable bare-frame
+bare-lawful = record { frame-within = omega arith; owners-within = λ x p l e. absurd (nobody p e) }
+
+-- what is opened keeps the law if what is granted does
+pub opened-lawful : (a : Answer (Unit {0})) (t : Timetable) → (Grants a → Lawful-timetable t) → Lawful-timetable (opened a t)
+unfolding opened
+opened-lawful (granted u) t h = h (u, refl)
+opened-lawful (refused n vs) t h = bare-lawful
+opened-lawful no-memory t h = bare-lawful
+
+either-owner : (b : Bool) (q p : ℕ) (o : Option ℕ) → cond b (Some q) o ≡ Some p → (q ≡ p) ⊎ (o ≡ Some p)
+either-owner true q p o e = let z : q ≡ p = cc in inl z
+either-owner false q p o e = inr e
+
+window-below : (rule : Neighbours) (f i : ℕ) (v : Option Window) (ws : List Window) (x p : ℕ) → Grants (windows-answer rule f i v ws) → window-owner ws x ≡ Some p → p < 8
+unfolding window-owner
+window-below rule f i v [] x p h e = absurd (nobody p e)
+window-below rule f i v (w ∷ ws) x p h e =
+    let g = both-grant (window-answer rule f i v w) _ h in
+    let a = and-parts (leb 1 (w .length)) _ (if-granted (in-frame f w) _ 53 (i ∷ []) (g .0)) in
+    let b = and-parts (leb (w .partition) 7) _ (a .1) in
+    elim (either-owner (covers w x) (w .partition) p (window-owner ws x) e) [
+      | inl z ↦ omega (arith, leb-true _ _ (b .0))
+      | inr z ↦ window-below rule f (i + 1) (Some w) ws x p (g .1) z
+    ]
+
+windows-lawful : (rule : Neighbours) (f : ℕ) (ws : List Window) → Lawful-timetable (window-timetable rule f ws)
+windows-lawful rule f ws = opened-lawful (list-answer rule f ws) _ (λ h.
+    let g = both-grant (frame-answer f) _ h in
+    let k = both-grant (count-answer (length ws)) _ (g .1) in
+    record {
+      frame-within = frame-granted f (g .0);
+      owners-within = λ x p l e. window-below rule f 0 None ws x p (k .1) e;
+    })
+
+share-below : (q : ℕ) (ns : List ℕ) (x p : ℕ) → share-owner q ns x ≡ Some p → p < q + length ns
+unfolding share-owner
+share-below q [] x p e = absurd (nobody p e)
+share-below q (n ∷ ns) x p e = elim (either-owner (ltb x n) q p _ e) [
+  | inl z ↦ omega arith
+  | inr z ↦ omega (arith, share-below (q + 1) ns (x - n) p z)
+]
+
+cycles-lawful : (f : ℕ) (shares : List ℕ) → length shares ≤ 8 → Lawful-timetable (share-timetable f shares)
+cycles-lawful f shares few = opened-lawful (cycle-answer f shares) _ (λ h. record {
+  frame-within = frame-granted f (both-grant (frame-answer f) _ h .0);
+  owners-within = λ x p l e. omega (arith, share-below 0 shares x p e);
+})
+
+shifts-lawful : (t : Timetable) (k : ℕ) → Lawful-timetable t → Lawful-timetable (shifted t k)
+shifts-lawful t k h = record {
+  frame-within = h .frame-within;
+  owners-within = λ x p l e. h .owners-within ((x + k) % t .frame) p (mod-lt (x + k) (h .frame-within .0)) e;
+}
+
+pub timetables-lawful : Timetables-are-lawful
+timetables-lawful = record { windows = windows-lawful; cycles = cycles-lawful; shifts = shifts-lawful }

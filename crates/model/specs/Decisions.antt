@@ -1,0 +1,31 @@
+-- The tests and answers that code computes say what the relations say.
+use mathlib.Core.Path.{_≡_}
+use mathlib.Core.List.{List}
+use mathlib.Core.Logic.{_↔_}
+use Prim.Native.Nat.{ℕ, _≤_}
+use Rattle.std.specs.declared.option.Option.the-variants.{Some, None}
+use Rattle.std.specs.Orderings.{Decides}
+use Rattle.model.specs.Modules.{Task, Module}
+use Rattle.model.specs.Timetables.{Timetable}
+use Rattle.model.specs.Orders.{Order}
+use Rattle.model.specs.InTime.{Partition, passes, Passes, in-time, In-time}
+use Rattle.model.specs.Verdicts.{Verdict, Lawful, cleared, Cleared, verdict-on, Says}
+use Rattle.model.specs.Planning.{Enough, least-q, Least-q}
+
+-- The tests decide whether a task passes, whether it is in time, and whether a module is cleared.
+pub record Tests-decide : Type 0 where
+  pub passing : (p : Partition) (i s : ℕ) → Decides (passes p i s) (Passes p i s)
+  pub being-in-time : (p : Partition) (f i : ℕ) → Decides (in-time p f i) (In-time p f i)
+  pub clearing : (given running : Timetable) (order : Order) (m : Module) → Decides (cleared given running order m) (Cleared given running order m)
+
+-- A verdict is the module's exactly when what it says holds.
+abbrev pub Verdict-is-decided : Type 0
+Verdict-is-decided =
+    (given running : Timetable) (order : Order) (m : Module) → Lawful running order m → (v : Verdict) →
+    (verdict-on given running order m ≡ v) ↔ Says given running order m v
+
+-- The least q is the least that is enough, and there is none exactly when no q up to f is enough.
+pub record Least-q-is-decided : Type 0 where
+  pub found : (order : Order) (p : ℕ) (ks : List Task) (f q : ℕ) → (least-q order p ks f ≡ Some q) ↔ Least-q order p ks f q
+  pub missing : (order : Order) (p : ℕ) (ks : List Task) (f : ℕ) →
+      (least-q order p ks f ≡ None) ↔ ((q : ℕ) → q ≤ f → Enough order p ks f q → ⊥)
