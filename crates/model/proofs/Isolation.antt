@@ -15,7 +15,7 @@ use Rattle.model.specs.declared.call.Call.the-variants.{Of as call, Tick as ti
 use Rattle.model.specs.declared.refusal.Refusal.the-variants.{LastTick}
 use Rattle.model.specs.declared.reply.Reply.the-variants.{Refused as refused}
 use Rattle.model.specs.FlightRecords.{Entry, accepted, calls-of, concerns, flight, is-tick, names-other, own-entries, struck, ticks}
-use Rattle.model.specs.Machine.{Call, Engine, MachineState, PartitionState, Reply, Request, TaskState, after, asked, chosen, closed, granted, is-runner, last-tick, late, new, one-on, overdue, put-partition, refusal, reply, runner, since-of, tick-reply, ticked, told, turn-reply, worked}
+use Rattle.model.specs.Machine.{Call, Engine, MachineState, PartitionState, Reply, Request, TaskState, after, asked, chosen, closed, answered, is-runner, last-tick, late, new, one-on, overdue, put-partition, refusal, reply, runner, since-of, tick-reply, ticked, told, turn-reply, worked}
 use Rattle.model.specs.Modules.{Module, Task, has-partition, task-of, tasks-of}
 use Rattle.model.specs.Promises.{Alike, Isolated}
 use Rattle.model.specs.Timetables.{owned-by, owner-at}
@@ -43,7 +43,7 @@ module _ (g : Engine) (p : ℕ) (ts : List Task) where
   solo now h (tick ∷ cs) =
       cond (owned-by p (owner-at (g .timetable) now)) (record { call = tick; answer = tick-told now h } ∷ solo (tick-now now) (tick-state now h) cs) (solo (tick-now now) (tick-state now h) cs)
   solo now h (call q a ∷ cs) =
-      record { call = call q a; answer = told (refusal ts now h a) (granted ts now h a) } ∷ solo now (asked now h a (refusal ts now h a)) cs
+      record { call = call q a; answer = told (refusal ts now h a) (answered ts now h a) } ∷ solo now (asked now h a (refusal ts now h a)) cs
 
 turn-accepted : (p : ℕ) (ts : List Task) (xs : ℕ → TaskState) (o : Option ℕ) → accepted (turn-reply p ts xs o) ≡ true
 unfolding accepted turn-reply
@@ -103,7 +103,7 @@ module _ (g : Engine) (m : Module) where
     unfolding after
     own-after st a = ap (λ (x : MachineState). x .partitions p) (cond-true {A = MachineState} _ _ _ pl) ∙ put-part-same (st .partitions) p _
 
-    own-told : (st : MachineState) (a : Request) → reply g m st (call p a) ≡ told (refusal (tasks-of m p) (st .now) (st .partitions p) a) (granted (tasks-of m p) (st .now) (st .partitions p) a)
+    own-told : (st : MachineState) (a : Request) → reply g m st (call p a) ≡ told (refusal (tasks-of m p) (st .now) (st .partitions p) a) (answered (tasks-of m p) (st .now) (st .partitions p) a)
     unfolding reply
     own-told st a = cond-true _ _ _ pl
 
@@ -221,7 +221,7 @@ module _ (p : ℕ) (ts : List Task) (g h : Engine) (pos : 1 ≤ g .timetable .fr
       go : {a b : Bool} {e f : Reply} {r s : List Entry} → a ≡ b → e ≡ f → r ≡ s → cond a (record { call = tick; answer = e } ∷ r) r ≡ cond b (record { call = tick; answer = f } ∷ s) s
       go o e r = λ k. cond (o k) (record { call = tick; answer = e k } ∷ r k) (r k)
   solo-alike now x (call q a ∷ cs) =
-      ap (λ (r : List Entry). record { call = call q a; answer = told (refusal ts now x a) (granted ts now x a) } ∷ r) (solo-alike now (asked now x a (refusal ts now x a)) cs)
+      ap (λ (r : List Entry). record { call = call q a; answer = told (refusal ts now x a) (answered ts now x a) } ∷ r) (solo-alike now (asked now x a (refusal ts now x a)) cs)
 
 pub isolated : Isolated
 isolated g h m n p law ml nl same like start r s fr fs eq =

@@ -20,3 +20,4 @@ pub mod Verdicts
 pub mod Planning
 pub mod Timetables
 pub mod Orders
+pub mod WorkedModules

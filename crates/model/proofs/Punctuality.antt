@@ -17,7 +17,7 @@ use Rattle.model.specs.declared.call.Request.the-variants.{Clear as clear, End
 use Rattle.model.specs.declared.refusal.Refusal.the-variants.{NoOpenJob, NoSuchPartition, NoSuchTask, TooSoon}
 use Rattle.model.specs.declared.reply.Reply.the-variants.{Ran as ran, Refused as refused}
 use Rattle.model.specs.FlightRecords.{Entry, Flight-record, Served, accepted, asks-end, asks-release, calls-end, calls-release, ends, flight, how-many, is-tick, names-task, releases, runs, ticks, up-to}
-use Rattle.model.specs.Machine.{Call, DispatchRule, Engine, Job, MachineState, Reply, Request, TaskState, after, by-order, chosen, granted, is-runner, last-tick, new, one-on, put, ready, refusal, released, reply, runner, tick-reply, ticked, told, turn-reply, unless, worked}
+use Rattle.model.specs.Machine.{Call, DispatchRule, Engine, Job, MachineState, Reply, Request, TaskState, after, by-order, chosen, answered, is-runner, last-tick, new, one-on, put, ready, refusal, released, reply, runner, tick-reply, ticked, told, turn-reply, unless, worked}
 use Rattle.model.specs.Modules.{Module, Task, has-partition, task-of, tasks-of}
 use Rattle.model.specs.Promises.{Any-rule, Faithful, Never-late, On-time, Punctual, plain}
 use Rattle.model.specs.Refusals.{Refusal}
@@ -162,10 +162,10 @@ module _ (t : Timetable) (rule : DispatchRule) (m : Module) (p i : ℕ) (st : Ma
       ]
 
       ends-it : has-partition m p ≡ true → ends p i (entry-of (call p (end i))) ≡ true
-      unfolding ends calls-end asks-end reply refusal accepted granted
+      unfolding ends calls-end asks-end reply refusal accepted answered
       ends-it l =
           and-from _ _ (and-from _ _ (eq-eqb p p refl) (eq-eqb i i refl))
-          (ap accepted (cond-true {A = Reply} (has-partition m p) _ (refused NoSuchPartition) l ∙ told-yes _ _ NoSuchTask NoOpenJob (granted ts (st .now) (st .partitions p) (end i)) (lt-ltb _ _ il) (ap (λ (x : TaskState). isSome (x .job)) open-at)))
+          (ap accepted (cond-true {A = Reply} (has-partition m p) _ (refused NoSuchPartition) l ∙ told-yes _ _ NoSuchTask NoOpenJob (answered ts (st .now) (st .partitions p) (end i)) (lt-ltb _ _ il) (ap (λ (x : TaskState). isSome (x .job)) open-at)))
 
       end-step : (j : ℕ) → has-partition m p ≡ true → Step (call p (end j))
       end-step j l = elim (cases-eq i j) [

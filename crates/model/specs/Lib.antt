@@ -13,3 +13,4 @@ pub mod FlightRecords
 pub mod Promises
 pub mod SupplyFacts
 pub mod Decisions
+pub mod WorkedModules

@@ -166,11 +166,11 @@ unfoldable pub fault-at : List Fault → ℕ → Fault
 fault-at fs k = getD fs k (record { refusal = NoSuchFault; task = 0; tick = 0 })
 
 -- the answer to a request that is not refused
-unfoldable pub granted : List Task → ℕ → PartitionState → Request → Reply
-granted ks now h (release i) = due (now + task-of ks i .deadline)
-granted ks now h (end i) = count (ran-of (h .tasks i .job))
-granted ks now h (fault k) = entry (fault-at (h .faults) k)
-granted ks now h clear = emptied (length (h .faults)) (h .lost)
+unfoldable pub answered : List Task → ℕ → PartitionState → Request → Reply
+answered ks now h (release i) = due (now + task-of ks i .deadline)
+answered ks now h (end i) = count (ran-of (h .tasks i .job))
+answered ks now h (fault k) = entry (fault-at (h .faults) k)
+answered ks now h clear = emptied (length (h .faults)) (h .lost)
 
 -- a task that is released now: a job opens with count 0
 unfoldable pub released : ℕ → TaskState
@@ -224,7 +224,7 @@ reply g m st tick = cond (ltb (st .now) last-tick) (tick-reply g m st (owner-at 
 reply g m st (call p a) =
     cond
     (has-partition m p)
-    (told (refusal (tasks-of m p) (st .now) (st .partitions p) a) (granted (tasks-of m p) (st .now) (st .partitions p) a))
+    (told (refusal (tasks-of m p) (st .now) (st .partitions p) a) (answered (tasks-of m p) (st .now) (st .partitions p) a))
     (refused NoSuchPartition)
 
 -- the state after a call

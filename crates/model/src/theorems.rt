@@ -5,6 +5,7 @@ ghost use Rattle.model.specs.Orders.{Orders-are-lawful};
 ghost use Rattle.model.specs.Promises.{Punctual, Exact, Isolated, Faithful, Any-rule};
 ghost use Rattle.model.specs.SupplyFacts.{Supply-facts, Starts-that-decide};
 ghost use Rattle.model.specs.Timetables.{Timetables-are-lawful};
+ghost use Rattle.model.specs.WorkedModules.{Worked-modules};
 
 // Every job of a cleared module is ended or has run its full cost by its deadline.
 pub fn punctual_holds() -> u8
@@ -86,6 +87,13 @@ pub fn timetables_are_lawful() -> u8
 // The listed order and the deadline order are lawful.
 pub fn orders_are_lawful() -> u8
     ensures { λ _. ⌜ Orders-are-lawful ⌝ }
+{
+    0
+}
+
+// The worked modules come out as written, all of them.
+pub fn worked_modules_hold() -> u8
+    ensures { λ _. ⌜ Worked-modules ⌝ }
 {
     0
 }
