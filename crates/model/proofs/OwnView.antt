@@ -33,14 +33,14 @@ pub put-part-other : (hs : ℕ → PartitionState) (p : ℕ) (x : PartitionState
 unfolding put-partition
 put-part-other hs p x q d = cond-false _ _ _ (ne-eqb q p d)
 
+either-tasks : (b : Bool) (x y : PartitionState) (xs : ℕ → TaskState) → x .tasks ≡ xs → y .tasks ≡ xs → cond b x y .tasks ≡ xs
+either-tasks true x y xs e f = e
+either-tasks false x y xs e f = f
+
 -- a fault leaves the tasks alone
 noted-tasks : (h : PartitionState) (f : Fault) → noted h f .tasks ≡ h .tasks
 unfolding noted
-noted-tasks h f = go (ltb (length (h .faults)) 8)
-  where
-    go : (b : Bool) → cond {A = PartitionState} b (record { tasks = h .tasks; faults = h .faults ++ (f ∷ []); lost = h .lost }) (record { tasks = h .tasks; faults = h .faults; lost = min (h .lost + 1) 65535 }) .tasks ≡ h .tasks
-    go true = refl
-    go false = refl
+noted-tasks h f = either-tasks _ _ _ (h .tasks) refl refl
 
 abbrev pub with-tasks : ℕ → (ℕ → TaskState) → one.State
 with-tasks now xs = record { now = now; tasks = xs }

@@ -136,7 +136,8 @@ pub record Worked-modules : Type 0 where
   pub refusals : answers-A 19 7 (call 2 clear ∷ call 0 (release 2) ∷ call 0 (end 0) ∷ call 0 (fault 1) ∷ call 0 (fault 2) ∷ call 0 clear ∷ call 0 (fault 0) ∷ []) ≡
       denied NoSuchPartition ∷ denied NoSuchTask ∷ denied NoOpenJob ∷ entry (record { refusal = NoOpenJob; task = 0; tick = 7 }) ∷
       denied NoSuchFault ∷ emptied 2 0 ∷ denied NoSuchFault ∷ []
-  pub lost-one : answers-A 19 0 (ends-of 9 ++ (call 0 clear ∷ [])) ≡ map (λ _. denied NoOpenJob) (ends-of 9) ++ (emptied 8 1 ∷ [])
+  pub lost-one : answers-A 19 0 (ends-of 9 ++ (call 0 clear ∷ call 0 clear ∷ [])) ≡
+      map (λ _. denied NoOpenJob) (ends-of 9) ++ (emptied 8 1 ∷ emptied 0 0 ∷ [])
   pub lost-stops : noted full (record { refusal = TooSoon; task = 0; tick = 0 }) .lost ≡ 65535
   -- an ended job answers its count
   pub ended : answers-A 19 0 (call 0 (release 1) ∷ tick ∷ tick ∷ call 0 (end 1) ∷ call 0 (end 1) ∷ []) ≡
