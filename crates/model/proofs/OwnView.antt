@@ -1,9 +1,8 @@
 -- Partition p of the plain machine goes its own way.
 use mathlib.Core.Bool.{Bool, _&&_, cond, false, true}
-use mathlib.Core.List.{[], _++_, _∷_}
 use mathlib.Core.Logic.{inl, inr}
 use mathlib.Core.Path.{_∙_, _≡_, ap, refl, sym}
-use Prim.Native.Nat.{_+_, _<_, _≤_, min, ℕ}
+use Prim.Native.Nat.{_<_, _≤_, ℕ}
 use lib.Dec.{leb, ltb}
 use lib.ListN.{length}
 use Rattle.std.specs.Options.{isSome}

@@ -58,4 +58,4 @@ module _ (order : Order) (p : ℕ) (ks : List Task) (f : ℕ) where
   enough-more q r l h i k s m = no-worse order p ks f q r i (task-of ks i .deadline) s l (h i k s m)
 
 pub least-q-decided : Least-q-is-decided
-least-q-decided = record { found = least-is; missing = none-is }
+least-q-decided = record { found = least-is; missing = none-is; more-is-enough = enough-more }

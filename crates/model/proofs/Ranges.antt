@@ -1,4 +1,4 @@
--- Sums aside, what holds of tests and searches over the numbers below a bound.
+-- Tests of the numbers below a bound, and searches for the least that passes.
 use mathlib.Core.Bool.{Bool, cond, false, true}
 use mathlib.Core.Logic.{_⊎_, inl, inr}
 use mathlib.Core.Path.{_∙_, _≡_, ap, refl, subst, sym}

@@ -5,7 +5,6 @@ use mathlib.Core.Bool.{Bool, true, false, cond, _&&_}
 use mathlib.Core.Logic.{_⊎_}
 use Prim.Native.Nat.{ℕ, _+_, _≤_, _<_}
 use lib.Dec.{eqb}
-use lib.ListN.{length}
 use Rattle.model.specs.Modules.{Module, Has-task, tasks-of}
 use Rattle.model.specs.Timetables.{Timetable, owner-at, owned-by}
 use Rattle.model.specs.Machine.{Request, Call, Reply, Engine, MachineState, new, reply, after, late, last-tick}

@@ -1,6 +1,6 @@
 -- The plain machine: what each call answers, and the state after it.
 use mathlib.Core.List.{List, [], _∷_, _++_}
-use mathlib.Core.Bool.{Bool, true, false, cond, _&&_}
+use mathlib.Core.Bool.{Bool, false, cond, _&&_}
 use Prim.Native.Nat.{ℕ, _+_, min}
 use lib.Dec.{leb, ltb, eqb}
 use lib.ListN.{length, getD}

@@ -1,7 +1,7 @@
 -- The verdict on a module. Two timetables decide: the given one, which partitions it names; and the one that runs, which
 -- ticks each partition has. Today they are the same.
 use mathlib.Core.Path.{_≡_}
-use mathlib.Core.Bool.{Bool, true, false, not, _&&_}
+use mathlib.Core.Bool.{Bool, true, not, _&&_}
 use mathlib.Core.List.{[], _∷_}
 use Prim.Native.Nat.{ℕ, _≤_, _<_}
 use lib.ListN.{length}
@@ -12,7 +12,7 @@ use Rattle.model.specs.Answers.{Answer, granted, refused}
 use Rattle.model.specs.Timetables.{Timetable, Lawful-timetable}
 use Rattle.model.specs.Orders.{Order, Lawful-order}
 use Rattle.model.specs.InTime.{Partition, partition, size, Passes, In-time, passes, in-time, all-in-time}
-use Rattle.model.specs.Ranges.{all-below, or-else, first-found, least-below, first-such}
+use Rattle.model.specs.Ranges.{all-below, first-found, least-below, first-such}
 pub use Rattle.model.specs.declared.verdict.LateTask.{LateTask}
 pub use Rattle.model.specs.declared.verdict.Verdict.{Verdict}
 use Rattle.model.specs.declared.verdict.Verdict.the-variants.{Cleared as is-cleared, Foreign as is-foreign, Late as is-late}
