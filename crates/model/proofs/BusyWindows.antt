@@ -14,6 +14,7 @@ use Rattle.model.proofs.Sums.{at, at-other, at-same, before-le, before-zero, c
 use Rattle.model.proofs.Supplies.{demand-is, demand-pos, supply-more, supply-none}
 use Rattle.model.proofs.Turns.{owed, owed-closed}
 
+-- Task j has run e j ticks since s, in at most k j jobs. Task i has run own ticks.
 pub record BusyWindow (p : Partition) (i s now : ℕ) (xs : ℕ → TaskState) (own : ℕ) : Type 0 where
   pub w : ℕ
   pub e : ℕ → ℕ

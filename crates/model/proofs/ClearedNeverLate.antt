@@ -27,6 +27,7 @@ use Rattle.model.proofs.Supplies.{passes-everywhere}
 use Rattle.model.proofs.Turns.{put-other, was-open}
 use Rattle.model.proofs.OnePartition as one
 
+-- a partition of a lawful module is proper
 module _ (t : Timetable) (order : Order) (m : Module) (ok : Lawful t order m) where
   abbrev ks : ℕ → List Task
   ks p = tasks-of m p

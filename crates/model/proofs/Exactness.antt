@@ -25,6 +25,7 @@ use Rattle.model.proofs.OwnView.{P, end-is, g, late-is, release-is, tick-is, v
 use Rattle.model.proofs.Ranges.{find-below}
 use Rattle.model.proofs.OnePartition as one
 
+-- the calls that do what an event of partition p does
 lift : ℕ → one.Event → Call
 lift p one.Event.tick = tick
 lift p (one.Event.release i) = call p (release i)

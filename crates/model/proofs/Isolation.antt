@@ -1,5 +1,5 @@
 -- What a record says of partition p follows from p's own calls and the ticks alone.
-use mathlib.Core.Bool.{Bool, _&&_, cond, false, true}
+use mathlib.Core.Bool.{Bool, _&&_, cond, false, true, not}
 use mathlib.Core.List.{List, [], _∷_}
 use mathlib.Core.Logic.{inl, inr}
 use mathlib.Core.Path.{_∙_, _≡_, ap, ap₂, fun-ext, refl, subst, sym}
@@ -22,6 +22,7 @@ use Rattle.model.specs.Timetables.{owned-by, owner-at}
 use Rattle.model.proofs.Firsts.{first-same}
 use Rattle.model.proofs.OwnView.{g, put-part-other, put-part-same}
 
+-- the calls but for those that name partitions other than p
 unfoldable pub kept : ℕ → List Call → List Call
 kept p [] = []
 kept p (c ∷ cs) = cond (names-other p c) (kept p cs) (c ∷ kept p cs)
@@ -133,13 +134,13 @@ module _ (g : Engine) (m : Module) where
     own-call st a cs ih =
         cond-true _ _ _ (eq-eqb p p refl) ∙
         ap₂ (λ (x : Reply) (r : List Entry). record { call = call p a; answer = x } ∷ r) (own-told st a) (rest st (call p a) cs _ _ (call-now st p a) (own-after st a) ih) ∙
-        sym (ap (solo g p (tasks-of m p) (st .now) (st .partitions p)) (cond-false _ _ _ (cond-true _ _ _ (eq-eqb p p refl))))
+        sym (ap (solo g p (tasks-of m p) (st .now) (st .partitions p)) (cond-false _ _ _ (ap not (eq-eqb p p refl))))
 
     other-call : (st : MachineState) (q : ℕ) (a : Request) (cs : List Call) → (q ≡ p → ⊥) → Goal (after g m st (call q a)) cs → Goal st (call q a ∷ cs)
     unfolding own-entries flight kept concerns names-other
     other-call st q a cs d ih =
         cond-false _ _ _ (ne-eqb q p d) ∙ rest st (call q a) cs _ _ (call-now st q a) (other-after st q a (λ z. d (sym z))) ih ∙
-        sym (ap (solo g p (tasks-of m p) (st .now) (st .partitions p)) (cond-true _ _ _ (cond-false _ _ _ (ne-eqb q p d))))
+        sym (ap (solo g p (tasks-of m p) (st .now) (st .partitions p)) (cond-true _ _ _ (ap not (ne-eqb q p d))))
 
     one-tick : (st : MachineState) (cs : List Call) → Goal (after g m st tick) cs → Goal st (tick ∷ cs)
     unfolding own-entries flight solo kept concerns names-other

@@ -10,6 +10,7 @@ use lib.ListN.{List·getD-eq-default, length}
 use Rattle.std.proofs.shelf.Tests.{and-parts, cases-lt, leb-true}
 use Rattle.model.specs.Modules.{Has-task, Module, Task, all-within, module-within, partition-within, partitions-within, task-in, task-of, tasks-of, within-limits}
 
+-- the limits of a module, task by task
 pub record Limits (m : Module) : Type 0 where
   pub few : length m ≤ 8
   pub sizes : (p : ℕ) → length (tasks-of m p) ≤ 16

@@ -21,6 +21,7 @@ use Rattle.model.specs.Refusals.{Fault, Refusal}
 use Rattle.model.specs.Timetables.{Timetable}
 use Rattle.model.proofs.OnePartition as one
 
+-- what concerns partition p, but for its faults
 abbrev pub view : ℕ → MachineState → one.State
 view p st = record { now = st .now; tasks = st .partitions p .tasks }
 

@@ -30,6 +30,7 @@ use Rattle.model.proofs.Quiet.{Quiet, not-late, quiet-after, quiet-new, same-f
 use Rattle.model.proofs.Turns.{put-other, put-same}
 use Rattle.model.proofs.OnePartition as one
 
+-- a task whose open job was opened by its last release
 abbrev holding : Job → TaskState
 holding b = record { last = Some (b .released); job = Some b }
 

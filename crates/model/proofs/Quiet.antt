@@ -24,6 +24,7 @@ use Rattle.model.proofs.OwnView.{may-end, may-release, view, view-clear, view-
 use Rattle.model.proofs.Turns.{job-of, new-job, no-job, put-other, put-same}
 use Rattle.model.proofs.OnePartition as one
 
+-- the jobs of a partition with the tasks ts: none past its tasks, and none as old as its deadline
 pub record Tidy (ts : List Task) (w : one.State) : Type 0 where
   pub shut : (i : ℕ) → length ts ≤ i → w .tasks i .job ≡ None
   pub young : (i : ℕ) → i < length ts → (b : Job) → w .tasks i .job ≡ Some b → w .now < b .released + task-of ts i .deadline

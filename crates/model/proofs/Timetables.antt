@@ -1,8 +1,8 @@
--- Opened window lists, opened share cycles and shifts keep the law of timetables.
+-- Opened window lists, opened share cycles and shifts keep the law of timetables; windows lie one after another.
 use mathlib.Core.Bool.{Bool, _&&_, cond, false, true}
-use mathlib.Core.List.{List, [], _∷_}
+use mathlib.Core.List.{List, [], _++_, _∷_}
 use mathlib.Core.Logic.{_⊎_, inl, inr}
-use mathlib.Core.Path.{_≡_, refl}
+use mathlib.Core.Path.{_∙_, _≡_, refl, sym}
 use Prim.Native.Nat.{_%_, _+_, _-_, _<_, _≤_, ℕ}
 use native.Mathlib.Nat.{mod-lt}
 use native.Mathlib.Omega.{arith}
@@ -10,11 +10,12 @@ use lib.Dec.{leb, ltb}
 use lib.ListN.{length}
 use Rattle.std.specs.declared.option.Option.{Option}
 use Rattle.std.specs.declared.option.Option.the-variants.{None, Some}
-use Rattle.std.proofs.shelf.Tests.{and-parts, leb-true}
+use Rattle.std.proofs.shelf.Tests.{and-parts, cond-true, leb-true, ltb-true}
 use Rattle.model.specs.Answers.{Answer, and-then, granted, no-memory, refused}
-use Rattle.model.specs.Timetables.{Lawful-timetable, Timetable, Timetables-are-lawful, bare-frame, covers, cycle-answer, opened, share-owner, share-timetable, shifted, window-owner, window-timetable}
-use Rattle.model.specs.WindowLists.{Neighbours, Window, count-answer, frame-answer, in-frame, list-answer, window-answer, windows-answer}
+use Rattle.model.specs.Timetables.{Covered-once, Lawful-timetable, Timetable, Timetables-are-lawful, bare-frame, covers, cycle-answer, opened, share-owner, share-timetable, shifted, window-owner, window-timetable}
+use Rattle.model.specs.WindowLists.{Neighbours, Window, count-answer, end-of, frame-answer, in-frame, list-answer, naming, overlap, window-answer, windows-answer}
 
+-- an answer that grants
 abbrev Grants : Answer (Unit {0}) → Type 0
 Grants a = (u : Unit {0}) × (a ≡ granted u)
 
@@ -93,3 +94,42 @@ shifts-lawful t k h = record {
 
 pub timetables-lawful : Timetables-are-lawful
 timetables-lawful = record { windows = windows-lawful; cycles = cycles-lawful; shifts = shifts-lawful }
+
+-- Windows of an allowed list lie one after another.
+module _ (f : ℕ) where
+  abbrev Allowed : ℕ → Option Window → List Window → Type 0
+  Allowed i v ws = Grants (windows-answer overlap f i v ws)
+
+  -- what is granted of a window and those after it
+  after-it : (i : ℕ) (v : Option Window) (w : Window) (ws : List Window) → Allowed i v (w ∷ ws) → Allowed (i + 1) (Some w) ws
+  after-it i v w ws h = both-grant (window-answer overlap f i v w) _ h .1
+
+  some-length : (i : ℕ) (v : Option Window) (w : Window) (ws : List Window) → Allowed i v (w ∷ ws) → in-frame f w ≡ true
+  some-length i v w ws h = if-granted (in-frame f w) _ 53 (i ∷ []) (both-grant (window-answer overlap f i v w) _ h .0)
+
+  no-overlap : (b : Bool) (i : ℕ) → Grants (naming i (cond b None (Some 54))) → b ≡ true
+  no-overlap true i h = refl
+  no-overlap false i h = absurd (refuses 54 (i ∷ []) (h .0) (h .1))
+
+  next-begins : (i : ℕ) (v w : Window) (ws : List Window) → Allowed i (Some v) (w ∷ ws) → end-of v ≤ w .start
+  next-begins i v w ws h =
+      let g : Grants (window-answer overlap f i (Some v) w) = both-grant (window-answer overlap f i (Some v) w) _ h .0 in
+      let e : window-answer overlap f i (Some v) w ≡ naming i (overlap v w) = cond-true _ _ _ (some-length i (Some v) w ws h) in
+      leb-true _ _ (no-overlap (leb (end-of v) (w .start)) i (g .0, sym e ∙ g .1))
+
+  later-begins : (i : ℕ) (v : Window) (between : List Window) (w : Window) (later : List Window) → Allowed i (Some v) (between ++ (w ∷ later)) → end-of v ≤ w .start
+  later-begins i v [] w later h = next-begins i v w later h
+  later-begins i v (u ∷ us) w later h =
+      omega (arith, next-begins i v u (us ++ (w ∷ later)) h, later-begins (i + 1) u us w later (after-it i (Some v) u (us ++ (w ∷ later)) h))
+
+  from-here : (i : ℕ) (u : Option Window) (earlier : List Window) (v : Window) (ws : List Window) → Allowed i u (earlier ++ (v ∷ ws)) → (j : ℕ) × Allowed j (Some v) ws
+  from-here i u [] v ws h = (i + 1, after-it i u v ws h)
+  from-here i u (w ∷ es) v ws h = from-here (i + 1) (Some w) es v ws (after-it i u w (es ++ (v ∷ ws)) h)
+
+pub covered-once : Covered-once
+covered-once f x earlier between later v w e a b =
+    let k = both-grant (count-answer (length (earlier ++ (v ∷ (between ++ (w ∷ later)))))) _ (both-grant (frame-answer f) _ (tt, e) .1) in
+    let g = from-here f 0 None earlier v (between ++ (w ∷ later)) (k .1) in
+    let c = and-parts (leb (v .start) x) _ a in
+    let d = and-parts (leb (w .start) x) _ b in
+    omega (arith, later-begins f (g .0) v between w later (g .1), ltb-true _ _ (c .1), leb-true _ _ (d .0))

@@ -15,6 +15,7 @@ use Rattle.model.specs.Ranges.{first-such}
 use Rattle.model.proofs.Firsts.{First, Found, None-passes, found}
 use Rattle.model.proofs.OnePartition.{Proper, State, after-work, is-open, runner}
 
+-- the three kinds of tick
 pub data Turn (p : Partition) (st : State) : Type 0 where
   not-owned : p .owns (st .now) ≡ false → runner p st ≡ None → Turn p st
   all-closed : None-passes (is-open (st .tasks)) (size p) → runner p st ≡ None → Turn p st

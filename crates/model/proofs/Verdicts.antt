@@ -23,6 +23,7 @@ use Rattle.model.proofs.Limits.{has-part}
 use Rattle.model.proofs.OnePartition.{Proper}
 use Rattle.model.proofs.Ranges.{Found-at, Least, found-none, found-some, least-none, least-some, none-found, none-least, some-found, some-least}
 
+-- The first foreign place.
 module _ (t : Timetable) (m : Module) where
   abbrev odd : ℕ → Bool
   odd x = not (owner-known m (t .owner x))

@@ -18,6 +18,7 @@ use Rattle.model.specs.Verdicts.{cleared, failing-start, finding, first-late, 
 use Rattle.model.specs.WorkedModules.{Worked-modules, exchanged-A, partition-A, timetable-A}
 use Rattle.model.proofs.Decisions.{decides-passes, refuted}
 
+-- what holds of 0 to 9 holds below 10
 below-ten : (A : ℕ → Type 0) → A 0 → A 1 → A 2 → A 3 → A 4 → A 5 → A 6 → A 7 → A 8 → A 9 → (s : ℕ) → s < 10 → A s
 below-ten A a b c d e f g h i j zero l = a
 below-ten A a b c d e f g h i j (suc zero) l = b

@@ -1,7 +1,7 @@
 -- Flight records: calls with their answers, in order, and what they say of jobs.
 use mathlib.Core.Path.{_≡_}
 use mathlib.Core.List.{List, [], _∷_, _++_}
-use mathlib.Core.Bool.{Bool, true, false, cond, _&&_}
+use mathlib.Core.Bool.{Bool, true, false, cond, not, _&&_}
 use mathlib.Core.Logic.{_⊎_}
 use Prim.Native.Nat.{ℕ, _+_, _≤_, _<_}
 use lib.Dec.{eqb}
@@ -131,7 +131,7 @@ Served p i c within =
 -- the call names a partition other than p
 unfoldable pub names-other : ℕ → Call → Bool
 names-other p tick = false
-names-other p (call q a) = cond (eqb q p) false true
+names-other p (call q a) = not (eqb q p)
 
 -- the record without the calls that name partitions other than p
 unfoldable pub struck : ℕ → List Entry → List Entry

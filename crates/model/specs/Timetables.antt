@@ -1,7 +1,7 @@
 -- Timetables by their meaning: a frame that comes round and round, and who owns each of its places.
 use mathlib.Core.Path.{_≡_}
-use mathlib.Core.Bool.{Bool, false, cond, _&&_}
-use mathlib.Core.List.{List, [], _∷_}
+use mathlib.Core.Bool.{Bool, true, false, cond, _&&_}
+use mathlib.Core.List.{List, [], _∷_, _++_}
 use Prim.Native.Nat.{ℕ, _+_, _-_, _%_, _≤_, _<_}
 use lib.Dec.{leb, ltb, eqb}
 use lib.ListN.{length}
@@ -9,7 +9,7 @@ use Rattle.std.specs.declared.option.Option.{Option}
 use Rattle.std.specs.declared.option.Option.the-variants.{Some, None}
 use Rattle.std.specs.shelf.Lists.{sum}
 use Rattle.model.specs.Answers.{Answer, granted, refused, no-memory, and-then}
-use Rattle.model.specs.WindowLists.{Window, Neighbours, end-of, frame-answer, list-answer}
+use Rattle.model.specs.WindowLists.{Window, Neighbours, overlap, end-of, frame-answer, list-answer}
 
 -- A timetable: how many places its frame has, and the partition that owns each place, if one does.
 pub record Timetable : Type 0 where
@@ -79,3 +79,9 @@ pub record Timetables-are-lawful : Type 0 where
   pub windows : (rule : Neighbours) (f : ℕ) (ws : List Window) → Lawful-timetable (window-timetable rule f ws)
   pub cycles : (f : ℕ) (shares : List ℕ) → length shares ≤ 8 → Lawful-timetable (share-timetable f shares)
   pub shifts : (t : Timetable) (k : ℕ) → Lawful-timetable t → Lawful-timetable (shifted t k)
+
+-- In a window list that is allowed no place is covered twice.
+abbrev pub Covered-once : Type 0
+Covered-once =
+    (f x : ℕ) (earlier between later : List Window) (v w : Window) →
+    list-answer overlap f (earlier ++ (v ∷ (between ++ (w ∷ later)))) ≡ granted tt → covers v x ≡ true → covers w x ≡ true → ⊥

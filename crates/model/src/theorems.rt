@@ -4,7 +4,7 @@ ghost use Rattle.model.specs.Decisions.{Tests-decide, Verdict-is-decided, Leas
 ghost use Rattle.model.specs.Orders.{Orders-are-lawful};
 ghost use Rattle.model.specs.Promises.{Punctual, Exact, Isolated, Faithful, Any-rule};
 ghost use Rattle.model.specs.SupplyFacts.{Supply-facts, Starts-that-decide};
-ghost use Rattle.model.specs.Timetables.{Timetables-are-lawful};
+ghost use Rattle.model.specs.Timetables.{Timetables-are-lawful, Covered-once};
 ghost use Rattle.model.specs.WorkedModules.{Worked-modules};
 
 // Every job of a cleared module is ended or has run its full cost by its deadline.
@@ -80,6 +80,13 @@ pub fn least_q_is_decided() -> u8
 // Opened window lists and share cycles, and shifts, are lawful timetables.
 pub fn timetables_are_lawful() -> u8
     ensures { λ _. ⌜ Timetables-are-lawful ⌝ }
+{
+    0
+}
+
+// No place of an allowed window list is covered twice.
+pub fn windows_cover_once() -> u8
+    ensures { λ _. ⌜ Covered-once ⌝ }
 {
     0
 }
