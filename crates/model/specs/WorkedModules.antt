@@ -11,11 +11,11 @@ use Rattle.model.specs.WindowLists.{Window, overlap}
 use Rattle.model.specs.Timetables.{Timetable, window-timetable, share-timetable, shifted, bare-frame}
 use Rattle.model.specs.Orders.{Order, listed, by-deadline}
 use Rattle.model.specs.InTime.{Partition, partition, supply, demand, Passes}
-use Rattle.model.specs.Verdicts.{verdict-on, verdict-answer}
+use Rattle.model.specs.Verdicts.{Lawful, verdict-on, verdict-answer}
 use Rattle.model.specs.Planning.{least-q, plan}
 use Rattle.model.specs.Refusals.{number}
 use Rattle.model.specs.Machine.{Call, Reply, Engine, MachineState, PartitionState, by-order, new, late, noted, last-tick}
-use Rattle.model.specs.FlightRecords.{flight, flown}
+use Rattle.model.specs.FlightRecords.{flight, flown, Late-record}
 use Rattle.model.specs.Promises.{plain}
 use Rattle.model.specs.declared.refusal.Refusal.the-variants.{NotCleared, NoSuchPartition, NoSuchTask, TooSoon, NoOpenJob, NoSuchFault, LastTick}
 use Rattle.model.specs.declared.call.Request.the-variants.{Release as release, End as end, Fault as fault, Clear as clear}
@@ -86,6 +86,7 @@ alone-1 = window-timetable overlap 1 (window 0 0 1 ∷ [])
 abbrev pub tight : Module
 tight = (task 1 2 2 ∷ task 1 2 2 ∷ []) ∷ []
 
+-- its partition
 abbrev pub tight-0 : Partition
 tight-0 = partition alone-1 listed tight 0
 
@@ -94,6 +95,8 @@ abbrev pub full : PartitionState
 full = record { tasks = λ _. record { last = None; job = None }; faults = repeated 8 (record { refusal = TooSoon; task = 0; tick = 0 }); lost = 65535 }
 
 pub record Worked-modules : Type 0 where
+  -- A keeps every law
+  pub lawful-A : Lawful timetable-A listed (module-A 19)
   -- A is cleared; with deadline 18 task 1 is late, from start 2 on, though it passes at start 0
   pub cleared-A : judged timetable-A listed (module-A 19) ≡ granted tt
   pub late-A : judged timetable-A listed (module-A 18) ≡ refused 22 (0 ∷ 1 ∷ 2 ∷ [])
@@ -124,8 +127,9 @@ pub record Worked-modules : Type 0 where
   -- release (0, 0) at tick 5: again at 14 is refused, at 15 accepted
   pub too-soon : answers-A 19 5 (call 0 (release 0) ∷ ticks-of 9 ++ (call 0 (release 0) ∷ tick ∷ call 0 (release 0) ∷ [])) ≡
       due 15 ∷ spares 5 ++ (ran 0 0 still-open ∷ ran 0 0 spent ∷ idle 0 ∷ idle 0 ∷ denied TooSoon ∷ idle 1 ∷ due 25 ∷ [])
-  -- with deadline 18 task 1 is late as `now` becomes 21
+  -- with deadline 18 task 1 is late as `now` becomes 21, so the record has a late job
   pub late-at-21 : (late-state .now ≡ 20) × (late engine-A 0 (tasks-of (module-A 18) 0) 20 (late-state .partitions 0 .tasks) 1 ≡ true)
+  pub late-record-A : Late-record engine-A (module-A 18) 3 (flight engine-A (module-A 18) (new 3) (late-calls ++ (tick ∷ [])))
   -- the owner's job runs, not the module's first open job
   pub owners-job : (answers-A 19 4 (call 0 (release 0) ∷ tick ∷ []) ≡ due 14 ∷ idle 1 ∷ []) ×
       (answers-A 19 4 (call 0 (release 0) ∷ call 1 (release 0) ∷ tick ∷ []) ≡ due 14 ∷ due 14 ∷ ran 1 0 spent ∷ [])
