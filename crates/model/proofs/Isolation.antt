@@ -1,6 +1,6 @@
 -- What a record says of partition p follows from p's own calls and the ticks alone.
 use mathlib.Core.Bool.{Bool, _&&_, cond, false, true, not}
-use mathlib.Core.List.{List, [], _∷_}
+use mathlib.Core.List.{List, [], _∷_, map}
 use mathlib.Core.Logic.{inl, inr}
 use mathlib.Core.Path.{_∙_, _≡_, ap, ap₂, fun-ext, refl, subst, sym}
 use Prim.Native.Nat.{_%_, _+_, _≤_, ℕ}
@@ -165,7 +165,7 @@ module _ (g : Engine) (m : Module) where
 
   -- what a record keeps of its calls
   pub calls-kept : (p : ℕ) (st : MachineState) (cs : List Call) → calls-of (struck p (flight g m st cs)) ≡ kept p cs
-  unfolding calls-of struck flight kept
+  unfolding map struck flight kept
   calls-kept p st [] = refl
   calls-kept p st (c ∷ cs) = go (names-other p c) (calls-kept p (after g m st c) cs)
     where

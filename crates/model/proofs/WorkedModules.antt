@@ -12,7 +12,7 @@ use Rattle.model.specs.InTime.{Passes, all-in-time, ceil, demand, in-time, par
 use Rattle.model.specs.Machine.{after, answered, asked, chosen, closed, fault-at, is-runner, late, noted, obeyed, one-on, overdue, progress, put, put-partition, ran-of, ready, refusal, refused-of, released, reply, runner, since-of, tick-reply, ticked, told, turn-reply, unless, worked}
 use Rattle.model.specs.Modules.{task-of}
 use Rattle.model.specs.Orders.{listed, record-of}
-use Rattle.model.specs.Planning.{and-also, end-to-end, least-q, least-qs, plan, q-answer, windows-for}
+use Rattle.model.specs.Planning.{end-to-end, least-q, least-qs, plan, windows-for, with-q}
 use Rattle.model.specs.Ranges.{all-below, first-found, first-of, first-such, least-below, or-else, some-upto, sum-below}
 use Rattle.model.specs.Timetables.{opened, owned-by, owner-at, share-owner, window-owner}
 use Rattle.model.specs.Verdicts.{cleared, failing-start, finding, first-late, foreign-place, late-at, late-task, owner-known, verdict-by, verdict-on}
@@ -60,7 +60,7 @@ exchanged-fails s l h =
     (decides-passes (partition timetable-A listed exchanged-A 0) 1 s .1 h)
 
 pub worked-modules : Worked-modules
-unfolding task-of opened window-owner share-owner owner-at owned-by record-of first-such first-of or-else first-found least-below sum-below some-upto all-below size supply sum-before ceil demand passes in-time all-in-time owner-known cleared foreign-place failing-start first-late late-at late-task finding verdict-by verdict-on least-q q-answer and-also least-qs end-to-end windows-for plan reply after chosen runner is-runner one-on worked overdue late closed ticked progress turn-reply tick-reply ready unless refusal ran-of fault-at answered released put obeyed noted refused-of told asked put-partition since-of flown flight
+unfolding task-of opened window-owner share-owner owner-at owned-by record-of first-such first-of or-else first-found least-below sum-below some-upto all-below size supply sum-before ceil demand passes in-time all-in-time owner-known cleared foreign-place failing-start first-late late-at late-task finding verdict-by verdict-on least-q with-q least-qs end-to-end windows-for plan reply after chosen runner is-runner one-on worked overdue late closed ticked progress turn-reply tick-reply ready unless refusal ran-of fault-at answered released put obeyed noted refused-of told asked put-partition since-of flown flight
 worked-modules = record {
   lawful-A = record { timetable = timetables-lawful .windows overlap 10 (window 0 0 4 ∷ window 1 4 1 ∷ []); local-order = orders-lawful .0; limits = refl };
   cleared-A = refl;

@@ -1,6 +1,6 @@
 -- Flight records: calls with their answers, in order, and what they say of jobs.
 use mathlib.Core.Path.{_≡_}
-use mathlib.Core.List.{List, [], _∷_, _++_}
+use mathlib.Core.List.{List, [], _∷_, _++_, map}
 use mathlib.Core.Bool.{Bool, true, false, cond, not, _&&_}
 use mathlib.Core.Logic.{_⊎_}
 use Prim.Native.Nat.{ℕ, _+_, _≤_, _<_}
@@ -139,9 +139,8 @@ struck p [] = []
 struck p (e ∷ r) = cond (names-other p (e .call)) (struck p r) (e ∷ struck p r)
 
 -- the calls of a record
-unfoldable pub calls-of : List Entry → List Call
-calls-of [] = []
-calls-of (e ∷ r) = e .call ∷ calls-of r
+abbrev pub calls-of : List Entry → List Call
+calls-of r = map (λ e. e .call) r
 
 -- the call names p, or is a tick and p owns the place of `now`
 unfoldable pub concerns : Timetable → ℕ → ℕ → Call → Bool

@@ -36,23 +36,17 @@ pub record Least-q (order : Order) (p : ℕ) (ks : List Task) (f q : ℕ) : Type
   pub enough : Enough order p ks f q
   pub least : (r : ℕ) → r < q → Enough order p ks f r → ⊥
 
--- 61 names the partition that no q up to f will do for
-unfoldable pub q-answer : ℕ → Option ℕ → Answer ℕ
-q-answer p None = refused 61 (p ∷ [])
-q-answer p (Some q) = granted q
+-- the q of partition p before those of the partitions after it; 61 names the partition that no q up to f will do for
+unfoldable pub with-q : ℕ → Option ℕ → Answer (List ℕ) → Answer (List ℕ)
+with-q p None others = refused 61 (p ∷ [])
+with-q p (Some q) (granted qs) = granted (q ∷ qs)
+with-q p (Some q) (refused n vs) = refused n vs
+with-q p (Some q) no-memory = no-memory
 
--- one more value before those of the other answer, unless either is refused
-unfoldable pub and-also : {A : Type 0} → Answer A → Answer (List A) → Answer (List A)
-and-also (granted a) (granted as′) = granted (a ∷ as′)
-and-also (granted a) (refused n vs) = refused n vs
-and-also (granted a) no-memory = no-memory
-and-also (refused n vs) other = refused n vs
-and-also no-memory other = no-memory
-
--- the least q of partition p and of those after it, the lowest partition first
+-- the least q of partition p and of those after it
 unfoldable pub least-qs : Order → ℕ → ℕ → Module → Answer (List ℕ)
 least-qs order f p [] = granted []
-least-qs order f p (ks ∷ m) = and-also (q-answer p (least-q order p ks f)) (least-qs order f (p + 1) m)
+least-qs order f p (ks ∷ m) = with-q p (least-q order p ks f) (least-qs order f (p + 1) m)
 
 -- windows of these lengths, partition p first, end to end from place x, leaving out length 0
 unfoldable pub end-to-end : ℕ → ℕ → List ℕ → List Window

@@ -3,7 +3,8 @@ use mathlib.Core.Path.{_≡_}
 use mathlib.Core.Bool.{true}
 use mathlib.Core.List.{List, [], _∷_, _++_, map}
 use mathlib.Core.Logic.{_↔_}
-use Prim.Native.Nat.{ℕ, zero, suc, _+_, _-_, _≤_, _<_}
+use Prim.Native.Nat.{ℕ, _+_, _-_, _≤_, _<_}
+use lib.ListN.{replicate}
 use Rattle.std.specs.declared.option.Option.the-variants.{Some, None}
 use Rattle.model.specs.Modules.{Module, task, tasks-of}
 use Rattle.model.specs.Answers.{Answer, granted, refused}
@@ -39,11 +40,6 @@ module-A d = (task 2 10 10 ∷ task 3 20 d ∷ []) ∷ (task 1 10 10 ∷ []) ∷
 abbrev pub exchanged-A : Module
 exchanged-A = (task 3 20 19 ∷ task 2 10 10 ∷ []) ∷ (task 1 10 10 ∷ []) ∷ []
 
--- n times x
-abbrev pub repeated : {A : Type 0} → ℕ → A → List A
-repeated zero x = []
-repeated (suc n) x = x ∷ repeated n x
-
 -- the answer of a verdict under one timetable, given and running
 abbrev pub judged : Timetable → Order → Module → Answer (Unit {0})
 judged t order m = verdict-answer (verdict-on t t order m)
@@ -56,23 +52,13 @@ partition-A d = partition timetable-A listed (module-A d) 0
 abbrev pub engine-A : Engine
 engine-A = plain timetable-A (by-order listed)
 
--- n ticks, n answers to a tick that is nobody's, and n ends of task 0 of partition 0
-abbrev pub ticks-of : ℕ → List Call
-ticks-of n = repeated n tick
-
-abbrev pub spares : ℕ → List Reply
-spares n = repeated n spare
-
-abbrev pub ends-of : ℕ → List Call
-ends-of n = repeated n (call 0 (end 0))
-
 -- the answers to some calls from a start tick, on A with that deadline
 abbrev pub answers-A : ℕ → ℕ → List Call → List Reply
 answers-A d start cs = map (λ e. e .answer) (flight engine-A (module-A d) (new start) cs)
 
 -- the calls of partition 0 that make task 1 late where its deadline is 18
 abbrev pub late-calls : List Call
-late-calls = call 0 (release 0) ∷ call 0 (release 1) ∷ ticks-of 10 ++ (call 0 (release 0) ∷ ticks-of 7)
+late-calls = call 0 (release 0) ∷ call 0 (release 1) ∷ replicate 10 tick ++ (call 0 (release 0) ∷ replicate 7 tick)
 
 -- the state after them, started at tick 3
 abbrev pub late-state : MachineState
@@ -92,7 +78,7 @@ tight-0 = partition alone-1 listed tight 0
 
 -- a partition with 8 fault entries and 65535 lost
 abbrev pub full : PartitionState
-full = record { tasks = λ _. record { last = None; job = None }; faults = repeated 8 (record { refusal = TooSoon; task = 0; tick = 0 }); lost = 65535 }
+full = record { tasks = λ _. record { last = None; job = None }; faults = replicate 8 (record { refusal = TooSoon; task = 0; tick = 0 }); lost = 65535 }
 
 pub record Worked-modules : Type 0 where
   -- A keeps every law
@@ -122,11 +108,11 @@ pub record Worked-modules : Type 0 where
   -- a share of a partition that the module lacks
   pub foreign : judged (share-timetable 10 (4 ∷ 1 ∷ 0 ∷ 1 ∷ [])) listed (module-A 19) ≡ refused 21 (5 ∷ [])
   -- the first frame of A, all tasks released
-  pub first-frame : answers-A 19 0 (call 0 (release 0) ∷ call 0 (release 1) ∷ call 1 (release 0) ∷ ticks-of 10) ≡
-      due 10 ∷ due 19 ∷ due 10 ∷ ran 0 0 still-open ∷ ran 0 0 spent ∷ ran 0 1 still-open ∷ ran 0 1 still-open ∷ ran 1 0 spent ∷ spares 5
+  pub first-frame : answers-A 19 0 (call 0 (release 0) ∷ call 0 (release 1) ∷ call 1 (release 0) ∷ replicate 10 tick) ≡
+      due 10 ∷ due 19 ∷ due 10 ∷ ran 0 0 still-open ∷ ran 0 0 spent ∷ ran 0 1 still-open ∷ ran 0 1 still-open ∷ ran 1 0 spent ∷ replicate 5 spare
   -- release (0, 0) at tick 5: again at 14 is refused, at 15 accepted
-  pub too-soon : answers-A 19 5 (call 0 (release 0) ∷ ticks-of 9 ++ (call 0 (release 0) ∷ tick ∷ call 0 (release 0) ∷ [])) ≡
-      due 15 ∷ spares 5 ++ (ran 0 0 still-open ∷ ran 0 0 spent ∷ idle 0 ∷ idle 0 ∷ denied TooSoon ∷ idle 1 ∷ due 25 ∷ [])
+  pub too-soon : answers-A 19 5 (call 0 (release 0) ∷ replicate 9 tick ++ (call 0 (release 0) ∷ tick ∷ call 0 (release 0) ∷ [])) ≡
+      due 15 ∷ replicate 5 spare ++ (ran 0 0 still-open ∷ ran 0 0 spent ∷ idle 0 ∷ idle 0 ∷ denied TooSoon ∷ idle 1 ∷ due 25 ∷ [])
   -- with deadline 18 task 1 is late as `now` becomes 21, so the record has a late job
   pub late-at-21 : (late-state .now ≡ 20) × (late engine-A 0 (tasks-of (module-A 18) 0) 20 (late-state .partitions 0 .tasks) 1 ≡ true)
   pub late-record-A : Late-record engine-A (module-A 18) 3 (flight engine-A (module-A 18) (new 3) (late-calls ++ (tick ∷ [])))
@@ -140,8 +126,8 @@ pub record Worked-modules : Type 0 where
   pub refusals : answers-A 19 7 (call 2 clear ∷ call 0 (release 2) ∷ call 0 (end 0) ∷ call 0 (fault 1) ∷ call 0 (fault 2) ∷ call 0 clear ∷ call 0 (fault 0) ∷ []) ≡
       denied NoSuchPartition ∷ denied NoSuchTask ∷ denied NoOpenJob ∷ entry (record { refusal = NoOpenJob; task = 0; tick = 7 }) ∷
       denied NoSuchFault ∷ emptied 2 0 ∷ denied NoSuchFault ∷ []
-  pub lost-one : answers-A 19 0 (ends-of 9 ++ (call 0 clear ∷ call 0 clear ∷ [])) ≡
-      map (λ _. denied NoOpenJob) (ends-of 9) ++ (emptied 8 1 ∷ emptied 0 0 ∷ [])
+  pub lost-one : answers-A 19 0 (replicate 9 (call 0 (end 0)) ++ (call 0 clear ∷ call 0 clear ∷ [])) ≡
+      replicate 9 (denied NoOpenJob) ++ (emptied 8 1 ∷ emptied 0 0 ∷ [])
   pub lost-stops : noted full (record { refusal = TooSoon; task = 0; tick = 0 }) .lost ≡ 65535
   -- an ended job answers its count
   pub ended : answers-A 19 0 (call 0 (release 1) ∷ tick ∷ tick ∷ call 0 (end 1) ∷ call 0 (end 1) ∷ []) ≡
