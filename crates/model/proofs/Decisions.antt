@@ -16,6 +16,7 @@ use Rattle.model.specs.Ranges.{all-below}
 use Rattle.model.specs.Timetables.{Timetable}
 use Rattle.model.specs.Verdicts.{Cleared, Names-own, cleared, owner-known}
 use Rattle.model.proofs.Limits.{has-part}
+use Rattle.model.proofs.Options.{none-some}
 use Rattle.model.proofs.Ranges.{all-from, some-from, to-all, to-some}
 
 pub decides-passes : (p : Partition) (i s : ℕ) → Decides (passes p i s) (Passes p i s)
@@ -45,7 +46,7 @@ refuted false h = refl
 module _ (m : Module) where
   pub known : (o : Option ℕ) → owner-known m o ≡ true → (p : ℕ) → o ≡ Some p → p < length m
   unfolding owner-known
-  known None h p e = let z : _≡_ {A = ℕ} 0 1 = cc in absurd (omega arith)
+  known None h p e = absurd (none-some e)
   known (Some q) h p e = let z : q ≡ p = cc in omega (arith, ltb-true q (length m) h)
 
   to-known : (o : Option ℕ) → ((p : ℕ) → o ≡ Some p → p < length m) → owner-known m o ≡ true

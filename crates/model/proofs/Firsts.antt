@@ -8,6 +8,7 @@ use Rattle.std.specs.declared.option.Option.{Option}
 use Rattle.std.specs.declared.option.Option.the-variants.{Some, None}
 use Rattle.std.proofs.shelf.Tests.{cases-eq, both-ways, cond-both}
 use Rattle.model.specs.Ranges.{first-of, first-such}
+use Rattle.model.proofs.Options.{none-some}
 
 -- k passes, and goes before every other number below m that passes
 pub record First (goes : ℕ → ℕ → Bool) (test : ℕ → Bool) (m k : ℕ) : Type 0 where
@@ -98,7 +99,7 @@ picked goes n (Some j) ih = cond-both (goes n j) n j (λ x. x < suc n) (λ _. om
 
 pub first-below : (goes : ℕ → ℕ → Bool) (test : ℕ → Bool) (n k : ℕ) → first-such goes test n ≡ Some k → k < n
 unfolding first-such
-first-below goes test zero k e = let z : _≡_ {A = ℕ} 0 1 = cc in absurd (omega arith)
+first-below goes test zero k e = absurd (none-some e)
 first-below goes test (suc n) k e = go (test n) (first-such goes test n) (first-below goes test n) e
   where
     go : (b : Bool) (o : Option ℕ) → ((j : ℕ) → o ≡ Some j → j < n) → cond b (Some (first-of goes n o)) o ≡ Some k → k < suc n

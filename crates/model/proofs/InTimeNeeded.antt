@@ -15,10 +15,11 @@ use Rattle.model.specs.InTime.{C, D, Partition, Passes, T, ceil, size, sum-bef
 use Rattle.model.specs.Machine.{Job, TaskState, closed, one-on, overdue, put, ready, released}
 use Rattle.model.proofs.Firsts.{First}
 use Rattle.model.proofs.OnePartition.{Event, In-time-is-needed, Proper, State, after-work, fresh, is-open, late, may-release, release, run, runner, step, tick}
+use Rattle.model.proofs.Options.{none-some}
 use Rattle.model.proofs.Ranges.{find-below}
 use Rattle.model.proofs.Sums.{at, at-other, at-same, before-le, before-more, before-zero, ceil-is}
 use Rattle.model.proofs.Supplies.{demand-is, supply-more, supply-none}
-use Rattle.model.proofs.Turns.{Turn, Unspent, all-closed, job-of, new-job, new-owed, new-ready, no-job, not-owned, one-less, owed, owed-closed, put-other, put-same, rests-none, rests-other, runs, same-last, same-release, turn, unspent-after, was-open, works}
+use Rattle.model.proofs.Turns.{Turn, Unspent, all-closed, job-of, new-job, new-owed, new-ready, not-owned, one-less, owed, owed-closed, put-other, put-same, rests-none, rests-other, runs, same-last, same-release, turn, unspent-after, was-open, works}
 
 pub run-append : (p : Partition) (st : State) (es fs : List Event) → run p st (es ++ fs) ≡ run p (run p st es) fs
 unfolding run
@@ -174,7 +175,7 @@ module _ (p : Partition) (ok : Proper p) (i : ℕ) (il : i < size p) (s : ℕ) (
     soon = omega (arith, ok .costs i il);
     unspent = λ j l b g. elim (cases-bool (wanted p i j)) [
       | inl w ↦ omega (arith, new-job s b (ap job-of (sym (new j l w)) ∙ g) .1, ok .costs j l)
-      | inr w ↦ absurd (no-job b (sym (old j w) ∙ g))
+      | inr w ↦ absurd (none-some (sym (old j w) ∙ g))
     ];
     others = λ j l g. elim (cases-bool (wanted p i j)) [ inl w ↦ w | inr w ↦ absurd (both-ways _ (ap isSome (old j w)) g) ];
     did = λ j l b. rw (new j l (want-before j b)) (omega (arith, new-owed (C p j) s));
@@ -189,7 +190,7 @@ module _ (p : Partition) (ok : Proper p) (i : ℕ) (il : i < size p) (s : ℕ) (
           let c = ok .costs j l in
           let t = now-start in
           (omega arith, omega arith)
-      | inr w ↦ absurd (no-job b (sym (old j w) ∙ g))
+      | inr w ↦ absurd (none-some (sym (old j w) ∙ g))
     ];
     used = omega (arith, before-zero p i, supply-none p s);
   }

@@ -12,8 +12,9 @@ use Rattle.model.specs.InTime.{C, D, Partition, Passes, T, passes, size}
 use Rattle.model.specs.Machine.{Job, TaskState, closed, overdue, put, ready, released}
 use Rattle.model.proofs.BusyWindows.{BusyWindow, admits, goes-on, starts, weaker}
 use Rattle.model.proofs.OnePartition.{Event, Proper, State, after-work, end, fresh, late, may-end, may-release, release, runner, step, tick}
+use Rattle.model.proofs.Options.{none-some}
 use Rattle.model.proofs.Sums.{at, at-other, at-same, before-more}
-use Rattle.model.proofs.Turns.{Turn, Unspent, all-closed, job-of, new-job, new-owed, new-ready, no-job, not-owned, one-less, owed, put-other, put-same, rests-none, rests-other, runs, same-last, turn, unspent-after, was, works}
+use Rattle.model.proofs.Turns.{Turn, Unspent, all-closed, job-of, new-job, new-owed, new-ready, not-owned, one-less, owed, put-other, put-same, rests-none, rests-other, runs, same-last, turn, unspent-after, was, works}
 
 pub record Inv (p : Partition) (i now : ℕ) (xs : ℕ → TaskState) : Type 0 where
   pub unspent : (j : ℕ) → j < size p → Unspent (C p j) (xs j .job)
@@ -137,7 +138,7 @@ kept-owed c x y (inr e) = rw e (omega arith)
 kept-job : (x y : TaskState) (b : Job) → Kept x y → y .job ≡ Some b → x .job ≡ Some b
 unfolding closed
 kept-job x y b (inl e) q = ap job-of (sym e) ∙ q
-kept-job x y b (inr e) q = absurd (no-job b (ap job-of (sym e) ∙ q))
+kept-job x y b (inr e) q = absurd (none-some (ap job-of (sym e) ∙ q))
 
 kept-when : (t : Bool) (x : TaskState) → Kept x (cond t (closed x) x)
 kept-when true x = inr refl
@@ -159,10 +160,10 @@ module _ (p : Partition) (ok : Proper p) (i : ℕ) (il : i < size p) where
   pub begins : (start : ℕ) → Inv p i start (fresh start .tasks)
   unfolding ready
   begins start = record {
-    unspent = λ j l b q. absurd (no-job b q);
+    unspent = λ j l b q. absurd (none-some q);
     past = λ j l. omega arith;
     lead = (start, starts p ok i il start (fresh start .tasks) (λ j l b. refl));
-    own = λ b q. absurd (no-job b q);
+    own = λ b q. absurd (none-some q);
   }
 
   tick-keeps : (st : State) → Inv p i (st .now) (st .tasks) → Inv p i (step p st tick .now) (step p st tick .tasks)

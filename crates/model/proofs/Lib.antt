@@ -1,3 +1,4 @@
+pub mod Options
 pub mod OnePartition
 pub mod Firsts
 pub mod Sums

@@ -20,8 +20,9 @@ use Rattle.model.specs.Modules.{Module, Task, has-partition, task-of, tasks-of
 use Rattle.model.specs.Promises.{Never-late, executive, plain}
 use Rattle.model.specs.Timetables.{Timetable, owner-at}
 use Rattle.model.proofs.Limits.{Limits}
+use Rattle.model.proofs.Options.{none-some}
 use Rattle.model.proofs.OwnView.{may-end, may-release, view, view-clear, view-end, view-fault, view-lacks, view-last, view-other, view-release, with-tasks}
-use Rattle.model.proofs.Turns.{job-of, new-job, no-job, put-other, put-same}
+use Rattle.model.proofs.Turns.{job-of, new-job, put-other, put-same}
 use Rattle.model.proofs.OnePartition as one
 
 -- the jobs of a partition with the tasks ts: none past its tasks, and none as old as its deadline
@@ -65,7 +66,7 @@ module _ (t : Timetable) (rule : DispatchRule) (m : Module) (ok : Limits m) wher
 
     young-at : (i : ℕ) (c : Bool) (x : TaskState) (b : Job) → overdue (task-of (tasks-of m p) i .deadline) (st .now + 1) (x .job) ≡ c → cond c (closed x) x .job ≡ Some b → st .now + 1 < b .released + task-of (tasks-of m p) i .deadline
     unfolding closed overdue
-    young-at i true x b e q = absurd (no-job b q)
+    young-at i true x b e q = absurd (none-some q)
     young-at i false x b e q = leb-false _ _ (ap (overdue (task-of (tasks-of m p) i .deadline) (st .now + 1)) (sym q) ∙ e)
 
     tick-tidy : st .now < last-tick → Tidy (tasks-of m p) (view p (after v m st tick))
@@ -84,7 +85,7 @@ module _ (t : Timetable) (rule : DispatchRule) (m : Module) (ok : Limits m) wher
         let k : i < length (tasks-of m p) = ltb-true _ _ (and-parts _ _ e .0) in
         (k, λ b q. omega (arith, new-job (st .now) b q, ok .costs p i k))))
     own-tidy (end i) l = subst (Tidy (tasks-of m p)) (sym (view-end v m p st i l)) (put-tidy (tasks-of m p) (view p st) h i (closed (st .partitions p .tasks i)) (may-end v m p st i) (λ e.
-        (ltb-true _ _ (and-parts _ _ e .0), λ b q. absurd (no-job b q))))
+        (ltb-true _ _ (and-parts _ _ e .0), λ b q. absurd (none-some q))))
     own-tidy (fault k) l = same-tidy (call p (fault k)) (view-fault v m p st k l)
     own-tidy clear l = same-tidy (call p clear) (view-clear v m p st l)
 
@@ -109,7 +110,7 @@ module _ (t : Timetable) (rule : DispatchRule) (m : Module) (ok : Limits m) wher
   pub quiet-new : Never-late v m → (start : ℕ) → Quiet (new start)
   quiet-new never start = record {
     quiet = λ cs h. never start (flight v m (new start) (cs ++ (tick ∷ []))) (cs, [], refl, h);
-    tidy = λ p. record { shut = λ i l. refl; young = λ i l b q. absurd (no-job b q) };
+    tidy = λ p. record { shut = λ i l. refl; young = λ i l b q. absurd (none-some q) };
   }
 
   pub quiet-after : (st : MachineState) (c : Call) → Quiet st → Quiet (after v m st c)

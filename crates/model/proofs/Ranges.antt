@@ -8,6 +8,7 @@ use Rattle.std.specs.declared.option.Option.{Option}
 use Rattle.std.specs.declared.option.Option.the-variants.{None, Some}
 use Rattle.std.proofs.shelf.Tests.{and-from, and-parts, both-ways, cases-bool, cases-eq, or-cases, or-left, or-right}
 use Rattle.model.specs.Ranges.{all-below, first-found, least-below, or-else, some-upto}
+use Rattle.model.proofs.Options.{none-some}
 
 pub some-from : (f : ℕ → Bool) (n : ℕ) → some-upto f n ≡ true → (t : ℕ) × (1 ≤ t) × (t ≤ n) × (f t ≡ true)
 unfolding some-upto
@@ -50,12 +51,9 @@ find-below (suc n) A B d = elim (d n) [
 
 -- The least number at which something is found.
 
-nothing : {A : Type 0} {a : A} → _≡_ {A = Option A} (Some a) None → ⊥
-nothing e = let z : _≡_ {A = ℕ} 0 1 = cc in omega arith
-
 or-none : {A : Type 0} (o q : Option A) → or-else o q ≡ None → (o ≡ None) × (q ≡ None)
 unfolding or-else
-or-none (Some a) q e = absurd (nothing e)
+or-none (Some a) q e = absurd (none-some (sym e))
 or-none None q e = (refl, e)
 
 module _ {A : Type 0} (f : ℕ → Option A) where
@@ -88,7 +86,7 @@ module _ {A : Type 0} (f : ℕ → Option A) where
 
   pub found-some : (n : ℕ) (a : A) → first-found f n ≡ Some a → Found-at n a
   unfolding first-found or-else
-  found-some zero a e = absurd (nothing (sym e))
+  found-some zero a e = absurd (none-some e)
   found-some (suc n) a e = go (first-found f n) refl (found-some n) e
     where
       go : (o : Option A) → first-found f n ≡ o → ((b : A) → first-found f n ≡ Some b → Found-at n b) → or-else o (f n) ≡ Some a → Found-at (suc n) a
@@ -106,14 +104,14 @@ module _ (test : ℕ → Bool) where
 
   none-test : (k : ℕ) → at-test k ≡ None → test k ≡ false
   none-test k e = elim (cases-bool (test k)) [
-    | inl y ↦ absurd (nothing (sym (ap {B = Option ℕ} (λ b. cond b (Some k) None) y) ∙ e))
+    | inl y ↦ absurd (none-some (sym e ∙ ap {B = Option ℕ} (λ b. cond b (Some k) None) y))
     | inr y ↦ y
   ]
 
   some-test : (k j : ℕ) → at-test k ≡ Some j → (k ≡ j) × (test k ≡ true)
   some-test k j e = elim (cases-bool (test k)) [
     | inl y ↦ let q : Some k ≡ Some j = sym (ap {B = Option ℕ} (λ b. cond b (Some k) None) y) ∙ e in let z : k ≡ j = cc in (z, y)
-    | inr y ↦ absurd (nothing (sym e ∙ test-none k y))
+    | inr y ↦ absurd (none-some (sym (test-none k y) ∙ e))
   ]
 
   -- k is the least number below n that passes

@@ -14,6 +14,7 @@ use Rattle.std.proofs.shelf.Tests.{and-parts, cond-true, leb-true, ltb-true}
 use Rattle.model.specs.Answers.{Answer, and-then, granted, no-memory, refused}
 use Rattle.model.specs.Timetables.{Covered-once, Lawful-timetable, Timetable, Timetables-are-lawful, bare-frame, covers, cycle-answer, opened, share-owner, share-timetable, shifted, window-owner, window-timetable}
 use Rattle.model.specs.WindowLists.{Neighbours, Window, count-answer, end-of, frame-answer, in-frame, list-answer, naming, overlap, window-answer, windows-answer}
+use Rattle.model.proofs.Options.{none-some}
 
 -- an answer that grants
 abbrev Grants : Answer (Unit {0}) → Type 0
@@ -34,11 +35,8 @@ if-granted false a n vs h = absurd (refuses n vs (h .0) (h .1))
 frame-granted : (f : ℕ) → Grants (frame-answer f) → (1 ≤ f) × (f ≤ 1024)
 frame-granted f h = let v = and-parts (leb 1 f) (leb f 1024) (if-granted (leb 1 f && leb f 1024) (granted tt) 51 [] h) in (leb-true _ _ (v .0), leb-true _ _ (v .1))
 
-nobody : (p : ℕ) → _≡_ {A = Option ℕ} None (Some p) → ⊥
-nobody p e = let z : _≡_ {A = ℕ} 0 1 = cc in omega arith
-
 bare-lawful : Lawful-timetable bare-frame
-bare-lawful = record { frame-within = omega arith; owners-within = λ x p l e. absurd (nobody p e) }
+bare-lawful = record { frame-within = omega arith; owners-within = λ x p l e. absurd (none-some e) }
 
 -- what is opened keeps the law if what is granted does
 pub opened-lawful : (a : Answer (Unit {0})) (t : Timetable) → (Grants a → Lawful-timetable t) → Lawful-timetable (opened a t)
@@ -53,7 +51,7 @@ either-owner false q p o e = inr e
 
 window-below : (rule : Neighbours) (f i : ℕ) (v : Option Window) (ws : List Window) (x p : ℕ) → Grants (windows-answer rule f i v ws) → window-owner ws x ≡ Some p → p < 8
 unfolding window-owner
-window-below rule f i v [] x p h e = absurd (nobody p e)
+window-below rule f i v [] x p h e = absurd (none-some e)
 window-below rule f i v (w ∷ ws) x p h e =
     let g = both-grant (window-answer rule f i v w) _ h in
     let a = and-parts (leb 1 (w .length)) _ (if-granted (in-frame f w) _ 53 (i ∷ []) (g .0)) in
@@ -74,7 +72,7 @@ windows-lawful rule f ws = opened-lawful (list-answer rule f ws) _ (λ h.
 
 share-below : (q : ℕ) (ns : List ℕ) (x p : ℕ) → share-owner q ns x ≡ Some p → p < q + length ns
 unfolding share-owner
-share-below q [] x p e = absurd (nobody p e)
+share-below q [] x p e = absurd (none-some e)
 share-below q (n ∷ ns) x p e = elim (either-owner (ltb x n) q p _ e) [
   | inl z ↦ omega arith
   | inr z ↦ omega (arith, share-below (q + 1) ns (x - n) p z)

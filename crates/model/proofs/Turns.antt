@@ -14,6 +14,7 @@ use Rattle.model.specs.Machine.{Job, TaskState, is-runner, one-on, put, ready,
 use Rattle.model.specs.Ranges.{first-such}
 use Rattle.model.proofs.Firsts.{First, Found, None-passes, found}
 use Rattle.model.proofs.OnePartition.{Proper, State, after-work, is-open, runner}
+use Rattle.model.proofs.Options.{none-some}
 
 -- the three kinds of tick
 pub data Turn (p : Partition) (st : State) : Type 0 where
@@ -85,12 +86,12 @@ one-less c (Some b) h u = go (leb c (b .ran + 1)) refl
 pub was : (c : ℕ) (o : Option Job) (b : Job) → one-on c o ≡ Some b →
     (a : Job) × (o ≡ Some a) × (b .released ≡ a .released) × (b .ran ≡ a .ran + 1) × (b .ran < c)
 unfolding one-on
-was c None b e = let z : _≡_ {A = ℕ} 0 1 = cc in absurd (omega arith)
+was c None b e = absurd (none-some e)
 was c (Some a) b e = go (leb c (a .ran + 1)) refl e
   where
     go : (t : Bool) → leb c (a .ran + 1) ≡ t → cond t None (Some (record { released = a .released; ran = a .ran + 1 })) ≡ Some b →
         (x : Job) × (Some a ≡ Some x) × (b .released ≡ x .released) × (b .ran ≡ x .ran + 1) × (b .ran < c)
-    go true l e = let z : _≡_ {A = ℕ} 0 1 = cc in absurd (omega arith)
+    go true l e = absurd (none-some e)
     go false l e =
         let r : b .ran ≡ a .ran + 1 = cc in
         let q : b .released ≡ a .released = cc in
@@ -98,9 +99,6 @@ was c (Some a) b e = go (leb c (a .ran + 1)) refl e
 
 abbrev pub job-of : TaskState → Option Job
 job-of x = x .job
-
-pub no-job : (b : Job) → _≡_ {A = Option Job} None (Some b) → ⊥
-no-job b q = let z : _≡_ {A = ℕ} 0 1 = cc in omega arith
 
 pub put-same : (xs : ℕ → TaskState) (n : ℕ) (x : TaskState) → put xs n x n ≡ x
 unfolding put

@@ -21,6 +21,7 @@ use Rattle.model.proofs.Decisions.{decides-in-time, decides-passes, known, nam
 use Rattle.model.proofs.Firsts.{First, Found, found}
 use Rattle.model.proofs.Limits.{has-part}
 use Rattle.model.proofs.OnePartition.{Proper}
+use Rattle.model.proofs.Options.{none-some}
 use Rattle.model.proofs.Ranges.{Found-at, Least, found-none, found-some, least-none, least-some, none-found, none-least, some-found, some-least}
 
 -- The first foreign place.
@@ -105,7 +106,7 @@ module _ (p : Partition) (f : ℕ) (ok : Proper p) where
     start-gone : (i : ℕ) (o : Option ℕ) → late-at n i o ≡ None → o ≡ None
     unfolding late-at
     start-gone i None e = refl
-    start-gone i (Some s) e = let z : _≡_ {A = ℕ} 0 1 = cc in absurd (omega arith)
+    start-gone i (Some s) e = absurd (none-some (sym e))
 
     none-of : (o : Option ℕ) → Found (p .before) late (size p) o → late-task p f n o ≡ None → (i : ℕ) → i < size p → In-time p f i
     unfolding late-task
@@ -132,7 +133,7 @@ module _ (p : Partition) (f : ℕ) (ok : Proper p) where
 
     start-some : (i : ℕ) (o : Option ℕ) (l : LateTask) → failing-start p f i ≡ o → First (p .before) late (size p) i → late-at n i o ≡ Some l → Made-of l
     unfolding late-at failing-start
-    start-some i None l q w e = let z : _≡_ {A = ℕ} 0 1 = cc in absurd (omega arith)
+    start-some i None l q w e = absurd (none-some e)
     start-some i (Some s) l q w e =
         let v : Least (fails i) f s = least-some (fails i) f s q in
         let z : at-start i s ≡ l = cc in
@@ -151,7 +152,7 @@ module _ (p : Partition) (f : ℕ) (ok : Proper p) where
 
     some-of : (o : Option ℕ) (l : LateTask) → Found (p .before) late (size p) o → late-task p f n o ≡ Some l → Made-of l
     unfolding late-task
-    some-of None l w e = let z : _≡_ {A = ℕ} 0 1 = cc in absurd (omega arith)
+    some-of None l w e = absurd (none-some e)
     some-of (Some i) l w e = start-some i (failing-start p f i) l refl w e
 
     pub late-some : (l : LateTask) → late-task p f n (first-late p f) ≡ Some l → Made-of l
