@@ -14,7 +14,7 @@ use Rattle.model.specs.Modules.{Task}
 use Rattle.model.specs.Orders.{Order}
 use Rattle.model.specs.Planning.{with-first}
 use Rattle.model.specs.SupplyFacts.{Repeats, Starts-that-decide}
-use Rattle.model.proofs.Sums.{at, sum-le}
+use Rattle.model.proofs.Sums.{sum-le}
 use Rattle.model.proofs.Supplies.{supply-front, supply-grows, supply-more, supply-round}
 
 module _ (p : Partition) where

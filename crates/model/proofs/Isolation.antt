@@ -20,7 +20,7 @@ use Rattle.model.specs.Modules.{Module, Task, has-partition, task-of, tasks-of
 use Rattle.model.specs.Promises.{Alike, Isolated}
 use Rattle.model.specs.Timetables.{owned-by, owner-at}
 use Rattle.model.proofs.Firsts.{first-same}
-use Rattle.model.proofs.OwnView.{g, put-part-other, put-part-same}
+use Rattle.model.proofs.OwnView.{put-part-other, put-part-same}
 
 -- the calls but for those that name partitions other than p
 unfoldable pub kept : ℕ → List Call → List Call

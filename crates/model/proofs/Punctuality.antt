@@ -25,7 +25,7 @@ use Rattle.model.specs.Timetables.{Timetable, owned-by, owner-at}
 use Rattle.model.proofs.ClearedNeverLate.{never}
 use Rattle.model.proofs.Isolation.{clock}
 use Rattle.model.proofs.Limits.{Limits, limits}
-use Rattle.model.proofs.OwnView.{g, may-end, may-release, view, view-clear, view-end, view-fault, view-lacks, view-last, view-other, view-release}
+use Rattle.model.proofs.OwnView.{may-end, may-release, view, view-clear, view-end, view-fault, view-lacks, view-last, view-other, view-release}
 use Rattle.model.proofs.Quiet.{Quiet, not-late, quiet-after, quiet-new, same-flight, same-flown}
 use Rattle.model.proofs.Turns.{put-other, put-same}
 use Rattle.model.proofs.OnePartition as one

@@ -8,7 +8,7 @@ use native.Mathlib.Omega.{arith}
 use Rattle.model.specs.InTime.{C, Partition, Passes-in, T, ceil, demand, sum-before, supply}
 use Rattle.model.specs.Ranges.{sum-below}
 use Rattle.model.specs.SupplyFacts.{Repeats, Supply-facts}
-use Rattle.model.proofs.Sums.{at, sum-same}
+use Rattle.model.proofs.Sums.{sum-same}
 
 abbrev one : Bool → ℕ
 one b = cond b 1 0
