@@ -15,12 +15,12 @@ use Rattle.model.specs.declared.call.Call.the-variants.{Of as call, Tick as ti
 use Rattle.model.specs.declared.refusal.Refusal.the-variants.{LastTick}
 use Rattle.model.specs.declared.reply.Reply.the-variants.{Refused as refused}
 use Rattle.model.specs.FlightRecords.{Entry, accepted, calls-of, concerns, flight, is-tick, names-other, own-entries, struck, ticks}
-use Rattle.model.specs.Machine.{Call, Engine, MachineState, PartitionState, Reply, Request, TaskState, after, asked, chosen, closed, answered, is-runner, last-tick, late, new, one-on, overdue, put-partition, refusal, reply, runner, since-of, tick-reply, ticked, told, turn-reply, worked}
+use Rattle.model.specs.Machine.{Call, Engine, MachineState, PartitionState, Reply, Request, TaskState, after, asked, chosen, closed, answered, is-runner, last-tick, late, new, one-on, overdue, put, refusal, reply, runner, since-of, tick-reply, ticked, told, turn-reply, worked}
 use Rattle.model.specs.Modules.{Module, Task, has-partition, task-of, tasks-of}
 use Rattle.model.specs.Promises.{Alike, Isolated}
 use Rattle.model.specs.Timetables.{owned-by, owner-at}
 use Rattle.model.proofs.Firsts.{first-same}
-use Rattle.model.proofs.OwnView.{put-part-other, put-part-same}
+use Rattle.model.proofs.Turns.{put-other, put-same}
 
 -- the calls but for those that name partitions other than p
 unfoldable pub kept : ℕ → List Call → List Call
@@ -81,7 +81,7 @@ module _ (g : Engine) (m : Module) where
       plus = omega arith
   clock st (call p a) = go (has-partition m p)
     where
-      go : (b : Bool) → cond {A = MachineState} b (record { now = st .now; partitions = put-partition (st .partitions) p (asked (st .now) (st .partitions p) a (refusal (tasks-of m p) (st .now) (st .partitions p) a)) }) st .now ≡ st .now + 0
+      go : (b : Bool) → cond {A = MachineState} b (record { now = st .now; partitions = put (st .partitions) p (asked (st .now) (st .partitions p) a (refusal (tasks-of m p) (st .now) (st .partitions p) a)) }) st .now ≡ st .now + 0
       go true = omega arith
       go false = omega arith
 
@@ -102,7 +102,7 @@ module _ (g : Engine) (m : Module) where
     -- a call that names p
     own-after : (st : MachineState) (a : Request) → after g m st (call p a) .partitions p ≡ asked (st .now) (st .partitions p) a (refusal (tasks-of m p) (st .now) (st .partitions p) a)
     unfolding after
-    own-after st a = ap (λ (x : MachineState). x .partitions p) (cond-true {A = MachineState} _ _ _ pl) ∙ put-part-same (st .partitions) p _
+    own-after st a = ap (λ (x : MachineState). x .partitions p) (cond-true {A = MachineState} _ _ _ pl) ∙ put-same (st .partitions) p _
 
     own-told : (st : MachineState) (a : Request) → reply g m st (call p a) ≡ told (refusal (tasks-of m p) (st .now) (st .partitions p) a) (answered (tasks-of m p) (st .now) (st .partitions p) a)
     unfolding reply
@@ -115,8 +115,8 @@ module _ (g : Engine) (m : Module) where
     -- a call that names another
     other-after : (st : MachineState) (q : ℕ) (a : Request) → (p ≡ q → ⊥) → after g m st (call q a) .partitions p ≡ st .partitions p
     unfolding after
-    other-after st q a d = elim (has-partition m q) as (λ b. cond {A = MachineState} b (record { now = st .now; partitions = put-partition (st .partitions) q (asked (st .now) (st .partitions q) a (refusal (tasks-of m q) (st .now) (st .partitions q) a)) }) st .partitions p ≡ st .partitions p) [
-      | true ↦ put-part-other (st .partitions) q _ p d
+    other-after st q a d = elim (has-partition m q) as (λ b. cond {A = MachineState} b (record { now = st .now; partitions = put (st .partitions) q (asked (st .now) (st .partitions q) a (refusal (tasks-of m q) (st .now) (st .partitions q) a)) }) st .partitions p ≡ st .partitions p) [
+      | true ↦ put-other (st .partitions) q _ p d
       | false ↦ refl
     ]
 

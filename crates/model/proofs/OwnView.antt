@@ -8,30 +8,23 @@ use lib.ListN.{length}
 use Rattle.std.specs.Options.{isSome}
 use Rattle.std.specs.declared.option.Option.{Option}
 use Rattle.std.specs.declared.option.Option.the-variants.{None, Some}
-use Rattle.std.proofs.shelf.Tests.{cases-bool, cases-eq, cases-lt, cond-false, cond-true, eq-eqb, le-ltb, lt-ltb, ne-eqb}
+use Rattle.std.proofs.shelf.Tests.{cases-bool, cases-eq, cases-lt, cond-false, cond-true, le-ltb, lt-ltb}
 use Rattle.model.specs.declared.call.Call.the-variants.{Of as call, Tick as tick}
 use Rattle.model.specs.declared.call.Request.the-variants.{Clear as clear, End as end, Fault as fault, Release as release}
 use Rattle.model.specs.declared.refusal.Refusal.the-variants.{NoOpenJob, NoSuchTask, TooSoon}
 use Rattle.model.specs.InTime.{Partition, partition, size}
-use Rattle.model.specs.Machine.{Call, Engine, MachineState, PartitionState, Request, TaskState, after, asked, by-order, chosen, closed, last-tick, late, noted, obeyed, put, put-partition, ready, refusal, refused-of, released, runner, ticked, unless, worked}
+use Rattle.model.specs.Machine.{Call, Engine, MachineState, PartitionState, Request, TaskState, after, asked, by-order, chosen, closed, last-tick, late, noted, obeyed, put, ready, refusal, refused-of, released, runner, ticked, unless, worked}
 use Rattle.model.specs.Modules.{Module, has-partition, task-of, tasks-of}
 use Rattle.model.specs.Orders.{Order}
 use Rattle.model.specs.Promises.{plain}
 use Rattle.model.specs.Refusals.{Fault, Refusal}
 use Rattle.model.specs.Timetables.{Timetable}
 use Rattle.model.proofs.OnePartition as one
+use Rattle.model.proofs.Turns.{put-other, put-same}
 
 -- what concerns partition p, but for its faults
 abbrev pub view : ℕ → MachineState → one.State
 view p st = record { now = st .now; tasks = st .partitions p .tasks }
-
-pub put-part-same : (hs : ℕ → PartitionState) (p : ℕ) (x : PartitionState) → put-partition hs p x p ≡ x
-unfolding put-partition
-put-part-same hs p x = cond-true _ _ _ (eq-eqb p p refl)
-
-pub put-part-other : (hs : ℕ → PartitionState) (p : ℕ) (x : PartitionState) (q : ℕ) → (q ≡ p → ⊥) → put-partition hs p x q ≡ hs q
-unfolding put-partition
-put-part-other hs p x q d = cond-false _ _ _ (ne-eqb q p d)
 
 either-tasks : (b : Bool) (x y : PartitionState) (xs : ℕ → TaskState) → x .tasks ≡ xs → y .tasks ≡ xs → cond b x y .tasks ≡ xs
 either-tasks true x y xs e f = e
@@ -80,15 +73,15 @@ module _ (g : Engine) (m : Module) (p : ℕ) (st : MachineState) where
   view-lacks q a l = cond-false _ _ _ l
 
   pub view-call : (q : ℕ) (a : Request) → has-partition m q ≡ true →
-      after g m st (call q a) ≡ record { now = st .now; partitions = put-partition (st .partitions) q (asked (st .now) (st .partitions q) a (refusal (tasks-of m q) (st .now) (st .partitions q) a)) }
+      after g m st (call q a) ≡ record { now = st .now; partitions = put (st .partitions) q (asked (st .now) (st .partitions q) a (refusal (tasks-of m q) (st .now) (st .partitions q) a)) }
   unfolding after
   view-call q a l = cond-true _ _ _ l
 
   pub view-other : (q : ℕ) (a : Request) → has-partition m q ≡ true → (p ≡ q → ⊥) → view p (after g m st (call q a)) ≡ view p st
-  view-other q a l d = ap (view p) (view-call q a l) ∙ ap (λ (h : PartitionState). with-tasks (st .now) (h .tasks)) (put-part-other (st .partitions) q _ p d)
+  view-other q a l d = ap (view p) (view-call q a l) ∙ ap (λ (h : PartitionState). with-tasks (st .now) (h .tasks)) (put-other (st .partitions) q _ p d)
 
   view-own : (a : Request) → has-partition m p ≡ true → view p (after g m st (call p a)) ≡ with-tasks (st .now) (asked (st .now) (st .partitions p) a (refusal (tasks-of m p) (st .now) (st .partitions p) a) .tasks)
-  view-own a l = ap (view p) (view-call p a l) ∙ ap (λ (h : PartitionState). with-tasks (st .now) (h .tasks)) (put-part-same (st .partitions) p _)
+  view-own a l = ap (view p) (view-call p a l) ∙ ap (λ (h : PartitionState). with-tasks (st .now) (h .tasks)) (put-same (st .partitions) p _)
 
   -- whether the task may be released or ended
   abbrev pub may-release : ℕ → Bool

@@ -100,11 +100,11 @@ was c (Some a) b e = go (leb c (a .ran + 1)) refl e
 abbrev pub job-of : TaskState → Option Job
 job-of x = x .job
 
-pub put-same : (xs : ℕ → TaskState) (n : ℕ) (x : TaskState) → put xs n x n ≡ x
+pub put-same : {A : Type 0} (xs : ℕ → A) (n : ℕ) (x : A) → put xs n x n ≡ x
 unfolding put
 put-same xs n x = cond-true _ _ _ (eq-eqb n n refl)
 
-pub put-other : (xs : ℕ → TaskState) (n : ℕ) (x : TaskState) (j : ℕ) → (j ≡ n → ⊥) → put xs n x j ≡ xs j
+pub put-other : {A : Type 0} (xs : ℕ → A) (n : ℕ) (x : A) (j : ℕ) → (j ≡ n → ⊥) → put xs n x j ≡ xs j
 unfolding put
 put-other xs n x j d = cond-false _ _ _ (ne-eqb j n d)
 

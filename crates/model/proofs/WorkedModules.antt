@@ -9,7 +9,7 @@ use lib.Dec.{leb, lit≤}
 use Rattle.std.proofs.shelf.Tests.{and-from, and-parts, both-ways, le-leb, leb-true, not-true, or-cases}
 use Rattle.model.specs.FlightRecords.{flight, flown}
 use Rattle.model.specs.InTime.{Passes, all-in-time, ceil, demand, in-time, partition, passes, size, sum-before, supply}
-use Rattle.model.specs.Machine.{after, answered, asked, chosen, closed, fault-at, is-runner, late, noted, obeyed, one-on, overdue, progress, put, put-partition, ran-of, ready, refusal, refused-of, released, reply, runner, since-of, tick-reply, ticked, told, turn-reply, unless, worked}
+use Rattle.model.specs.Machine.{after, answered, asked, chosen, closed, is-runner, late, noted, obeyed, one-on, overdue, progress, put, ran-of, ready, refusal, refused-of, released, reply, runner, since-of, tick-reply, ticked, told, turn-reply, unless, worked}
 use Rattle.model.specs.Modules.{task-of}
 use Rattle.model.specs.Orders.{listed, record-of}
 use Rattle.model.specs.Planning.{end-to-end, least-q, least-qs, plan, windows-for, with-q}
@@ -60,7 +60,7 @@ exchanged-fails s l h =
     (decides-passes (partition timetable-A listed exchanged-A 0) 1 s .1 h)
 
 pub worked-modules : Worked-modules
-unfolding task-of opened window-owner share-owner owner-at owned-by record-of first-such first-of or-else first-found least-below sum-below some-upto all-below size supply sum-before ceil demand passes in-time all-in-time owner-known cleared foreign-place failing-start first-late late-at late-task finding verdict-by verdict-on least-q with-q least-qs end-to-end windows-for plan reply after chosen runner is-runner one-on worked overdue late closed ticked progress turn-reply tick-reply ready unless refusal ran-of fault-at answered released put obeyed noted refused-of told asked put-partition since-of flown flight
+unfolding task-of opened window-owner share-owner owner-at owned-by record-of first-such first-of or-else first-found least-below sum-below some-upto all-below size supply sum-before ceil demand passes in-time all-in-time owner-known cleared foreign-place failing-start first-late late-at late-task finding verdict-by verdict-on least-q with-q least-qs end-to-end windows-for plan reply after chosen runner is-runner one-on worked overdue late closed ticked progress turn-reply tick-reply ready unless refusal ran-of answered released put obeyed noted refused-of told asked since-of flown flight
 worked-modules = record {
   lawful-A = record { timetable = timetables-lawful .windows overlap 10 (window 0 0 4 ∷ window 1 4 1 ∷ []); local-order = orders-lawful .0; limits = refl };
   cleared-A = refl;

@@ -24,8 +24,7 @@ Verdict-is-decided =
     (given running : Timetable) (order : Order) (m : Module) → Lawful running order m → (v : Verdict) →
     (verdict-on given running order m ≡ v) ↔ Says given running order m v
 
--- The least q is the least that is enough, there is none exactly when no q up to f is enough, and more than enough is
--- enough.
+-- The least q is the least that is enough, and there is none where no q up to f is enough. More than enough is enough.
 pub record Least-q-is-decided : Type 0 where
   pub found : (order : Order) (p : ℕ) (ks : List Task) (f q : ℕ) → (least-q order p ks f ≡ Some q) ↔ Least-q order p ks f q
   pub missing : (order : Order) (p : ℕ) (ks : List Task) (f : ℕ) →

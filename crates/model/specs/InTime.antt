@@ -9,8 +9,7 @@ use Rattle.model.specs.Timetables.{Timetable, owner-at, owned-by}
 use Rattle.model.specs.Orders.{Order, record-of}
 use Rattle.model.specs.Ranges.{sum-below, some-upto, all-below}
 
--- A partition as the analysis sees it: its tasks, numbered from 0; whether task j goes before task i; whether it owns the
--- tick u.
+-- A partition as the analysis sees it: its tasks, whether task j goes before task i, and whether it owns the tick u.
 pub record Partition : Type 0 where
   pub tasks : List Task
   pub before : ℕ → ℕ → Bool
@@ -50,8 +49,7 @@ sum-before p i f = sum-below (size p) (λ j. cond (p .before j i) (f j) 0)
 unfoldable pub ceil : ℕ → ℕ → ℕ
 ceil t d = (t + (d - 1)) / d
 
--- Demand(i, t): the cost of task i, and of each task that goes before it its cost times the releases that t ticks have
--- room for
+-- Demand(i, t): the cost of task i, and for each task j that goes before it, its cost × ceil(t / its period)
 unfoldable pub demand : Partition → ℕ → ℕ → ℕ
 demand p i t = C p i + sum-before p i (λ j. C p j * ceil t (T p j))
 

@@ -161,23 +161,19 @@ unfoldable pub ran-of : Option Job → ℕ
 ran-of None = 0
 ran-of (Some b) = b .ran
 
--- the fault entry k
-unfoldable pub fault-at : List Fault → ℕ → Fault
-fault-at fs k = getD fs k (record { refusal = NoSuchFault; task = 0; tick = 0 })
-
 -- the answer to a request that is not refused
 unfoldable pub answered : List Task → ℕ → PartitionState → Request → Reply
 answered ks now h (release i) = due (now + task-of ks i .deadline)
 answered ks now h (end i) = count (ran-of (h .tasks i .job))
-answered ks now h (fault k) = entry (fault-at (h .faults) k)
+answered ks now h (fault k) = entry (getD (h .faults) k (record { refusal = NoSuchFault; task = 0; tick = 0 }))
 answered ks now h clear = emptied (length (h .faults)) (h .lost)
 
 -- a task that is released now: a job opens with count 0
 unfoldable pub released : ℕ → TaskState
 released now = record { last = Some now; job = Some (record { released = now; ran = 0 }) }
 
--- the task states with x for task i
-unfoldable pub put : (ℕ → TaskState) → ℕ → TaskState → ℕ → TaskState
+-- the states xs of tasks or partitions, with x for number i
+unfoldable pub put : {A : Type 0} → (ℕ → A) → ℕ → A → ℕ → A
 put xs i x j = cond (eqb j i) x (xs j)
 
 -- the partition after a request that is not refused
@@ -214,10 +210,6 @@ asked now h a (Some n) = refused-of now h a n
 
 -- The machine.
 
--- the partitions with the state x for p
-unfoldable pub put-partition : (ℕ → PartitionState) → ℕ → PartitionState → ℕ → PartitionState
-put-partition hs p x q = cond (eqb q p) x (hs q)
-
 -- the answer to a call
 unfoldable pub reply : Engine → Module → MachineState → Call → Reply
 reply g m st tick = cond (ltb (st .now) last-tick) (tick-reply g m st (owner-at (g .timetable) (st .now))) (refused LastTick)
@@ -239,6 +231,6 @@ after g m st (call p a) =
     (has-partition m p)
     (record {
       now = st .now;
-      partitions = put-partition (st .partitions) p (asked (st .now) (st .partitions p) a (refusal (tasks-of m p) (st .now) (st .partitions p) a));
+      partitions = put (st .partitions) p (asked (st .now) (st .partitions p) a (refusal (tasks-of m p) (st .now) (st .partitions p) a));
     })
     st

@@ -97,8 +97,7 @@ pub record First-foreign (t : Timetable) (m : Module) (x : ℕ) : Type 0 where
   pub lacking : length m ≤ owner
   pub first : (y p : ℕ) → y < x → t .owner y ≡ Some p → p < length m
 
--- A task that is not in time at its start, which is the first such start; the tasks that go before it and the partitions
--- below it are in time.
+-- A task with the first start at which it does not pass; tasks that go before it and partitions below it are in time.
 pub record First-late (t : Timetable) (order : Order) (m : Module) (l : LateTask) : Type 0 where
   pub exists : Has-task m (l .partition) (l .task)
   pub in-frame : l .start < t .frame
