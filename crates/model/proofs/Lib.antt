@@ -22,3 +22,4 @@ pub mod Planning
 pub mod Timetables
 pub mod Orders
 pub mod WorkedModules
+pub mod Plans

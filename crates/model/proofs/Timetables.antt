@@ -17,22 +17,29 @@ use Rattle.model.specs.WindowLists.{Neighbours, Window, count-answer, end-of, 
 use Rattle.model.proofs.Options.{none-some}
 
 -- an answer that grants
-abbrev Grants : Answer (Unit {0}) → Type 0
+abbrev pub Grants : Answer (Unit {0}) → Type 0
 Grants a = (u : Unit {0}) × (a ≡ granted u)
 
-refuses : (n : ℕ) (vs : List ℕ) (u : Unit {0}) → _≡_ {A = Answer (Unit {0})} (refused n vs) (granted u) → ⊥
-refuses n vs u e = let z : _≡_ {A = ℕ} 0 1 = cc in omega arith
+pub refuses : {A : Type 0} (n : ℕ) (vs : List ℕ) (a : A) → _≡_ {A = Answer A} (refused n vs) (granted a) → ⊥
+refuses n vs a e = let z : _≡_ {A = ℕ} 0 1 = cc in omega arith
+
+pub wants : {A : Type 0} (a : A) → _≡_ {A = Answer A} no-memory (granted a) → ⊥
+wants a e = let z : _≡_ {A = ℕ} 0 1 = cc in omega arith
+
+-- what comes second is granted only where both are
+pub then-grants : {A : Type 0} (a : Answer (Unit {0})) (b : Answer A) (x : A) → and-then a b ≡ granted x → Grants a × (b ≡ granted x)
+then-grants (granted u) b x e = ((u, refl), e)
+then-grants (refused n vs) b x e = absurd (refuses n vs x e)
+then-grants no-memory b x e = absurd (wants x e)
 
 both-grant : (a b : Answer (Unit {0})) → Grants (and-then a b) → Grants a × Grants b
-both-grant (granted u) b h = ((u, refl), h)
-both-grant (refused n vs) b h = absurd (refuses n vs (h .0) (h .1))
-both-grant no-memory b h = let z : _≡_ {A = ℕ} 0 1 = cc in absurd (omega arith)
+both-grant a b h = let v = then-grants a b (h .0) (h .1) in (v .0, (h .0, v .1))
 
 if-granted : (b : Bool) (a : Answer (Unit {0})) (n : ℕ) (vs : List ℕ) → Grants (cond b a (refused n vs)) → b ≡ true
 if-granted true a n vs h = refl
 if-granted false a n vs h = absurd (refuses n vs (h .0) (h .1))
 
-frame-granted : (f : ℕ) → Grants (frame-answer f) → (1 ≤ f) × (f ≤ 1024)
+pub frame-granted : (f : ℕ) → Grants (frame-answer f) → (1 ≤ f) × (f ≤ 1024)
 frame-granted f h = let v = and-parts (leb 1 f) (leb f 1024) (if-granted (leb 1 f && leb f 1024) (granted tt) 51 [] h) in (leb-true _ _ (v .0), leb-true _ _ (v .1))
 
 bare-lawful : Lawful-timetable bare-frame
@@ -45,7 +52,7 @@ opened-lawful (granted u) t h = h (u, refl)
 opened-lawful (refused n vs) t h = bare-lawful
 opened-lawful no-memory t h = bare-lawful
 
-either-owner : (b : Bool) (q p : ℕ) (o : Option ℕ) → cond b (Some q) o ≡ Some p → (q ≡ p) ⊎ (o ≡ Some p)
+pub either-owner : (b : Bool) (q p : ℕ) (o : Option ℕ) → cond b (Some q) o ≡ Some p → (q ≡ p) ⊎ (o ≡ Some p)
 either-owner true q p o e = let z : q ≡ p = cc in inl z
 either-owner false q p o e = inr e
 

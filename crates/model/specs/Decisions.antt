@@ -1,16 +1,19 @@
 -- The tests and answers that code computes say what the relations say.
 use mathlib.Core.Path.{_≡_}
+use mathlib.Core.Bool.{true}
 use mathlib.Core.List.{List}
 use mathlib.Core.Logic.{_↔_}
 use Prim.Native.Nat.{ℕ, _≤_}
 use Rattle.std.specs.declared.option.Option.the-variants.{Some, None}
 use Rattle.std.specs.Orderings.{Decides}
-use Rattle.model.specs.Modules.{Task, Module}
-use Rattle.model.specs.Timetables.{Timetable}
+use Rattle.model.specs.Modules.{Task, Module, module-within}
+use Rattle.model.specs.Answers.{granted}
+use Rattle.model.specs.WindowLists.{Window, overlap, list-answer}
+use Rattle.model.specs.Timetables.{Timetable, window-timetable}
 use Rattle.model.specs.Orders.{Order}
 use Rattle.model.specs.InTime.{Partition, passes, Passes, in-time, In-time}
 use Rattle.model.specs.Verdicts.{Verdict, Lawful, cleared, Cleared, verdict-on, Says}
-use Rattle.model.specs.Planning.{Enough, least-q, Least-q}
+use Rattle.model.specs.Planning.{Enough, least-q, Least-q, plan}
 
 -- The tests decide whether a task passes, whether it is in time, and whether a module is cleared.
 pub record Tests-decide : Type 0 where
@@ -30,3 +33,9 @@ pub record Least-q-is-decided : Type 0 where
   pub missing : (order : Order) (p : ℕ) (ks : List Task) (f : ℕ) →
       (least-q order p ks f ≡ None) ↔ ((q : ℕ) → q ≤ f → Enough order p ks f q → ⊥)
   pub more-is-enough : (order : Order) (p : ℕ) (ks : List Task) (f q more : ℕ) → q ≤ more → Enough order p ks f q → Enough order p ks f more
+
+-- The windows of a plan are an allowed list, and with them the module is cleared.
+abbrev pub Plans-clear : Type 0
+Plans-clear =
+    (order : Order) (m : Module) (f n : ℕ) (ws : List Window) → module-within m ≡ true → plan order m f n ≡ granted ws →
+    (list-answer overlap f ws ≡ granted tt) × Cleared (window-timetable overlap f ws) (window-timetable overlap f ws) order m

@@ -1,6 +1,6 @@
 // The theorems on the definitions of specs/. Each stands on the contract of a function that does nothing else, so the
 // crate is proved only with all of them.
-ghost use Rattle.model.specs.Decisions.{Tests-decide, Verdict-is-decided, Least-q-is-decided};
+ghost use Rattle.model.specs.Decisions.{Tests-decide, Verdict-is-decided, Least-q-is-decided, Plans-clear};
 ghost use Rattle.model.specs.Orders.{Orders-are-lawful};
 ghost use Rattle.model.specs.Promises.{Punctual, Exact, Isolated, Faithful, Any-rule};
 ghost use Rattle.model.specs.SupplyFacts.{Supply-facts, Starts-that-decide};
@@ -73,6 +73,13 @@ pub fn verdict_is_decided() -> u8
 // The least q is the least that is enough.
 pub fn least_q_is_decided() -> u8
     ensures { λ _. ⌜ Least-q-is-decided ⌝ }
+{
+    0
+}
+
+// The windows of a plan clear the module.
+pub fn plans_clear() -> u8
+    ensures { λ _. ⌜ Plans-clear ⌝ }
 {
     0
 }
