@@ -193,7 +193,7 @@ module _ (p : ℕ) (ts : List Task) (g h : Engine) (pos : 1 ≤ g .timetable .fr
 
   late-alike : (now : ℕ) (xs : ℕ → TaskState) (i : ℕ) → late g p ts now xs i ≡ late h p ts now xs i
   unfolding late
-  late-alike now xs i = ap₂ (λ (b : Bool) (x : TaskState). b && overdue (task-of ts i .deadline) (now + 1) (x .job)) (like .looks) (worked-alike now xs i)
+  late-alike now xs i = ap₂ (λ (b : Bool) (x : TaskState). b && overdue (task-of ts i .deadline) (now + 1) (x .job)) (like .looks-for-late) (worked-alike now xs i)
 
   ticked-alike : (now : ℕ) (x : PartitionState) → ticked g p ts now x ≡ ticked h p ts now x
   unfolding ticked

@@ -321,7 +321,7 @@ module _ (t : Timetable) (rule : DispatchRule) (m : Module) (p i : ℕ) (st : Ma
 
 module _ (t : Timetable) (rule : DispatchRule) (m : Module) (ok : Limits m) (still : Never-late (plain t rule) m) where
   -- a record of an engine that does not look for late jobs is one of the plain machine
-  as-plain : (start : ℕ) (r : List Entry) (looks : Bool) → Flight-record (record { timetable = t; rule = rule; looks = looks }) m start r → Flight-record (plain t rule) m start r
+  as-plain : (start : ℕ) (r : List Entry) (looks-for-late : Bool) → Flight-record (record { timetable = t; rule = rule; looks-for-late = looks-for-late }) m start r → Flight-record (plain t rule) m start r
   as-plain start r true f = f
   as-plain start r false f = (f .0, f .1 ∙ same-flight t rule m ok (new start) (f .0) (quiet-new t rule m ok still start))
 
@@ -362,9 +362,9 @@ module _ (t : Timetable) (rule : DispatchRule) (m : Module) (ok : Limits m) (sti
                 | inr h ↦ inr (rw later-now (omega arith))
               ]
 
-  on-time : (looks : Bool) → On-time (record { timetable = t; rule = rule; looks = looks }) m
-  on-time looks start p i earlier within later e fl rel l =
-      let f : Flight-record (plain t rule) m start (earlier ++ (e ∷ (within ++ later))) = as-plain start (earlier ++ (e ∷ (within ++ later))) looks fl in
+  on-time : (looks-for-late : Bool) → On-time (record { timetable = t; rule = rule; looks-for-late = looks-for-late }) m
+  on-time looks-for-late start p i earlier within later e fl rel l =
+      let f : Flight-record (plain t rule) m start (earlier ++ (e ∷ (within ++ later))) = as-plain start (earlier ++ (e ∷ (within ++ later))) looks-for-late fl in
       served start p i earlier within e rel (flight-front m (plain t rule) (earlier ++ (e ∷ within)) later (new start) (f .0) (append-assoc earlier (e ∷ within) later ∙ f .1)) l
 
 pub any-rule : Any-rule

@@ -45,7 +45,7 @@ by-order order p a b = order p (a .of) (b .of)
 pub record Engine : Type 0 where
   pub timetable : Timetable
   pub rule : DispatchRule
-  pub looks : Bool
+  pub looks-for-late : Bool
 
 -- The state of a partition: of each task; its fault entries, oldest first; and how many more were lost.
 pub record PartitionState : Type 0 where
@@ -73,13 +73,15 @@ unfoldable pub since-of : Option Job → ℕ
 since-of None = 0
 since-of (Some b) = b .released
 
--- the open job of task i, as the dispatch rule sees it
-abbrev pub open-job : List Task → (ℕ → TaskState) → ℕ → OpenJob
-open-job ks xs i = record { of = record-of ks i; since = since-of (xs i .job) }
+-- the open job of task i that was released at the tick a, as a dispatch rule sees it
+abbrev pub open-job : List Task → ℕ → ℕ → OpenJob
+open-job ks i a = record { of = record-of ks i; since = a }
 
 -- the task whose open job goes first
 unfoldable pub chosen : Engine → ℕ → List Task → (ℕ → TaskState) → Option ℕ
-chosen g p ks xs = first-such (λ j k. g .rule p (open-job ks xs j) (open-job ks xs k)) (λ i. isSome (xs i .job)) (length ks)
+chosen g p ks xs =
+    let job : ℕ → OpenJob = λ i. open-job ks i (since-of (xs i .job)) in
+    first-such (λ j k. g .rule p (job j) (job k)) (λ i. isSome (xs i .job)) (length ks)
 
 -- the task that runs: the chosen one, if p owns the tick
 unfoldable pub runner : Engine → ℕ → List Task → ℕ → (ℕ → TaskState) → Option ℕ
@@ -107,7 +109,7 @@ overdue d now (Some b) = leb (b .released + d) now
 
 -- the tick closes the job of task i as late
 unfoldable pub late : Engine → ℕ → List Task → ℕ → (ℕ → TaskState) → ℕ → Bool
-late g p ks now xs i = g .looks && overdue (task-of ks i .deadline) (now + 1) (worked g p ks now xs i .job)
+late g p ks now xs i = g .looks-for-late && overdue (task-of ks i .deadline) (now + 1) (worked g p ks now xs i .job)
 
 -- the task with no open job
 unfoldable pub closed : TaskState → TaskState
@@ -207,8 +209,6 @@ told (Some n) a = refused n
 unfoldable pub asked : ℕ → PartitionState → Request → Option Refusal → PartitionState
 asked now h a None = obeyed now h a
 asked now h a (Some n) = refused-of now h a n
-
--- The machine.
 
 -- the answer to a call
 unfoldable pub reply : Engine → Module → MachineState → Call → Reply

@@ -7,18 +7,18 @@ use Prim.Native.Nat.{ℕ, _≤_, _<_}
 use lib.ListN.{length}
 use Rattle.model.specs.Modules.{Task, Module, task-in, tasks-of, module-within}
 use Rattle.model.specs.Timetables.{Timetable, Lawful-timetable, owned-by}
-use Rattle.model.specs.Orders.{Order, record-of}
+use Rattle.model.specs.Orders.{Order}
 use Rattle.model.specs.Verdicts.{Lawful, Names-own, Cleared}
-use Rattle.model.specs.Machine.{Call, DispatchRule, OpenJob, Engine, by-order, new}
+use Rattle.model.specs.Machine.{Call, DispatchRule, open-job, Engine, by-order, new}
 use Rattle.model.specs.FlightRecords.{Entry, flown, flight, Flight-record, Late-record, releases, ticks, how-many, Served, struck, calls-of, own-entries}
 
 -- the plain machine's engine: its ticks look for late jobs
 abbrev pub plain : Timetable → DispatchRule → Engine
-plain t rule = record { timetable = t; rule = rule; looks = true }
+plain t rule = record { timetable = t; rule = rule; looks-for-late = true }
 
 -- an executive's engine: its ticks never look for late jobs
 abbrev pub executive : Timetable → DispatchRule → Engine
-executive t rule = record { timetable = t; rule = rule; looks = false }
+executive t rule = record { timetable = t; rule = rule; looks-for-late = false }
 
 -- No flight record has a late job.
 abbrev pub Never-late : Engine → Module → Type 0
@@ -63,17 +63,13 @@ Any-rule =
     (t : Timetable) (rule : DispatchRule) (m : Module) → module-within m ≡ true → Never-late (plain t rule) m →
     On-time (plain t rule) m × On-time (executive t rule) m × As-plain t rule m
 
--- the job of task i released at the tick a, as a dispatch rule sees it
-abbrev pub job-at : List Task → ℕ → ℕ → OpenJob
-job-at ks i a = record { of = record-of ks i; since = a }
-
 -- Two engines treat partition p with the tasks ks alike: it owns the same places of one frame, and its jobs go by one rule.
 pub record Alike (p : ℕ) (ks : List Task) (g h : Engine) : Type 0 where
   pub frame : g .timetable .frame ≡ h .timetable .frame
   pub places : (x : ℕ) → x < g .timetable .frame → owned-by p (g .timetable .owner x) ≡ owned-by p (h .timetable .owner x)
   pub rule : (i j a b : ℕ) → i < length ks → j < length ks →
-      g .rule p (job-at ks i a) (job-at ks j b) ≡ h .rule p (job-at ks i a) (job-at ks j b)
-  pub looks : g .looks ≡ h .looks
+      g .rule p (open-job ks i a) (open-job ks j b) ≡ h .rule p (open-job ks i a) (open-job ks j b)
+  pub looks-for-late : g .looks-for-late ≡ h .looks-for-late
 
 -- Isolated: two modules with the same tasks in partition p, on engines that treat p alike, started at one tick. Strike from
 -- a flight record of each the calls that name other partitions: where the same calls are left in the same order, p's calls
