@@ -2,7 +2,7 @@
 
 // What a partition can be asked for: the release of a task, the end of a task's job, a fault entry, and to clear its
 // fault entries.
-#[derive(Clone, Copy, PartialEq, Eq)]
+#[derive(Clone, Copy)]
 pub enum Request {
     Release(u8),
     End(u8),
@@ -10,7 +10,7 @@ pub enum Request {
     Clear,
 }
 
-#[derive(Clone, Copy, PartialEq, Eq)]
+#[derive(Clone, Copy)]
 pub enum Call {
     Tick,
     Of(u8, Request),
