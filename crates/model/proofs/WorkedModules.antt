@@ -62,7 +62,7 @@ exchanged-fails s l h =
 pub worked-modules : Worked-modules
 unfolding task-of opened window-owner share-owner owner-at owned-by record-of first-such first-of or-else first-found least-below sum-below some-upto all-below size supply sum-before ceil demand passes in-time all-in-time owner-known cleared foreign-place failing-start first-late late-at late-task finding verdict-by verdict-on least-q with-q least-qs end-to-end windows-for plan reply after chosen runner is-runner one-on worked overdue late closed ticked progress turn-reply tick-reply ready unless refusal ran-of answered released put obeyed noted refused-of told asked since-of flown flight
 worked-modules = record {
-  lawful-A = record { timetable = timetables-lawful .windows overlap 10 (window 0 0 4 ∷ window 1 4 1 ∷ []); local-order = orders-lawful .0; limits = refl };
+  lawful-A = record { timetable = timetables-lawful .windows overlap 10 (window 0 0 4 ∷ window 1 4 1 ∷ []); local-order = orders-lawful .by-number; limits = refl };
   cleared-A = refl;
   late-A = refl;
   fails-A = fails-A;

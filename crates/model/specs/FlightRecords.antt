@@ -42,8 +42,6 @@ Late-record g m start r =
     (earlier : List Call) × (later : List Call) × (r ≡ flight g m (new start) (earlier ++ (tick ∷ later))) ×
     Closes-late g m (flown g m (new start) earlier)
 
--- What an entry says.
-
 -- the call was not refused
 unfoldable pub accepted : Reply → Bool
 accepted (refused n) = false
@@ -125,8 +123,6 @@ up-to test (e ∷ r) = cond (test e) [] (e ∷ up-to test r)
 abbrev pub Served : ℕ → ℕ → ℕ → List Entry → Type 0
 Served p i c within =
     (1 ≤ how-many (ends p i) (up-to (releases p i) within)) ⊎ (c ≤ how-many (runs p i) (up-to (releases p i) within))
-
--- What a record says of one partition.
 
 -- the call names a partition other than p
 unfoldable pub names-other : ℕ → Call → Bool

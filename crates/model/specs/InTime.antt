@@ -65,8 +65,6 @@ Passes p i s = Passes-in p i (D p i) s
 abbrev pub In-time : Partition → ℕ → ℕ → Type 0
 In-time p f i = (s : ℕ) → s < f → Passes p i s
 
--- The same as tests.
-
 -- whether task i passes at the start s
 unfoldable pub passes : Partition → ℕ → ℕ → Bool
 passes p i s = some-upto (λ t. leb (demand p i t) (supply p s t)) (D p i)

@@ -35,6 +35,12 @@ abbrev pub by-deadline : Order
 by-deadline p a b =
     ltb (a .task .deadline) (b .task .deadline) || (eqb (a .task .deadline) (b .task .deadline) && listed p a b)
 
--- Both keep the law.
-abbrev pub Orders-are-lawful : Type 0
-Orders-are-lawful = Lawful-order listed × Lawful-order by-deadline
+-- an order kept as a table of ranks, by partition and task number: the lower rank goes first
+abbrev pub by-rank : (ℕ → ℕ → ℕ) → Order
+by-rank rank p a b = ltb (rank p (a .number)) (rank p (b .number))
+
+-- All keep the law, a table of ranks if the tasks that a partition can have are given different ranks.
+pub record Orders-are-lawful : Type 0 where
+  pub by-number : Lawful-order listed
+  pub by-deadlines : Lawful-order by-deadline
+  pub by-ranks : (rank : ℕ → ℕ → ℕ) → ((p i j : ℕ) → p < 8 → i < 16 → j < 16 → rank p i ≡ rank p j → i ≡ j) → Lawful-order (by-rank rank)

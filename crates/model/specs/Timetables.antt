@@ -40,8 +40,6 @@ opened (granted u) t = t
 opened (refused n vs) t = bare-frame
 opened no-memory t = bare-frame
 
--- Window lists.
-
 -- the window covers the place x
 abbrev pub covers : Window → ℕ → Bool
 covers w x = leb (w .start) x && ltb x (end-of w)
@@ -54,8 +52,6 @@ window-owner (w ∷ ws) x = cond (covers w x) (Some (w .partition)) (window-owne
 -- an opened list of windows in a frame of f ticks
 abbrev pub window-timetable : Neighbours → ℕ → List Window → Timetable
 window-timetable rule f ws = opened (list-answer rule f ws) (record { frame = f; owner = window-owner ws })
-
--- Share cycles.
 
 -- the frame has 1 to 1024 ticks, and the shares add to no more
 abbrev pub cycle-answer : ℕ → List ℕ → Answer (Unit {0})

@@ -98,7 +98,7 @@ pub fn windows_cover_once() -> u8
     0
 }
 
-// The listed order and the deadline order are lawful.
+// The listed order, the deadline order and tables of ranks are lawful.
 pub fn orders_are_lawful() -> u8
     ensures { λ _. ⌜ Orders-are-lawful ⌝ }
 {
