@@ -7,8 +7,9 @@ use native.Mathlib.Nat.{mul-le-mul-left}
 use native.Mathlib.Omega.{arith}
 use Rattle.std.specs.Options.{isSome}
 use Rattle.std.proofs.shelf.Tests.{cases-eq}
+use Rattle.model.specs.declared.job.TaskState.{TaskState}
 use Rattle.model.specs.InTime.{C, Partition, T, ceil, demand, size, sum-before, supply}
-use Rattle.model.specs.Machine.{TaskState, ready}
+use Rattle.model.specs.Machine.{ready}
 use Rattle.model.proofs.OnePartition.{Proper}
 use Rattle.model.proofs.Sums.{at, at-other, at-same, before-le, before-zero, ceil-least}
 use Rattle.model.proofs.Supplies.{demand-is, demand-pos, supply-more, supply-none}

@@ -8,10 +8,13 @@ use native.Mathlib.Nat.{add-mod-right}
 use native.Mathlib.Omega.{arith}
 use Rattle.std.specs.Options.{isSome}
 use Rattle.std.proofs.shelf.Tests.{and-parts, both-ways, cases-bool, cases-eq, cases-lt, ltb-true}
+use Rattle.model.specs.declared.call.Call.{Call}
+use Rattle.model.specs.declared.job.TaskState.{TaskState}
+use Rattle.model.specs.declared.task.Task.{Task}
 use Rattle.model.specs.FlightRecords.{flown}
 use Rattle.model.specs.InTime.{D, Partition, Passes, partition, size}
-use Rattle.model.specs.Machine.{Call, MachineState, TaskState, after, closed, last-tick, late, new, put}
-use Rattle.model.specs.Modules.{Has-task, Module, Task, tasks-of}
+use Rattle.model.specs.Machine.{MachineState, after, closed, last-tick, late, new, put}
+use Rattle.model.specs.Modules.{Has-task, Module, tasks-of}
 use Rattle.model.specs.Orders.{Can-exist, Order, record-of}
 use Rattle.model.specs.Promises.{Never-late}
 use Rattle.model.specs.SupplyFacts.{Repeats}

@@ -9,8 +9,8 @@ use native.Mathlib.Numerals.{add-one}
 use native.Mathlib.Omega.{arith}
 use lib.Dec.{ltb}
 use Rattle.std.proofs.shelf.Tests.{cases-bool, cases-eq, lt-ltb, ltb-false, ltb-true}
+use Rattle.model.specs.declared.task.Task.{Task}
 use Rattle.model.specs.InTime.{Partition, Passes-in, demand, size, sum-before, supply}
-use Rattle.model.specs.Modules.{Task}
 use Rattle.model.specs.Orders.{Order}
 use Rattle.model.specs.Planning.{with-first}
 use Rattle.model.specs.SupplyFacts.{Repeats, Starts-that-decide}

@@ -11,8 +11,10 @@ use Rattle.std.specs.Options.{isSome}
 use Rattle.std.specs.declared.option.Option.{Option}
 use Rattle.std.specs.declared.option.Option.the-variants.{None, Some}
 use Rattle.std.proofs.shelf.Tests.{and-from, and-right, both-ways, cases-bool, cases-eq, cases-lt, cond-false, cond-true, eq-eqb, eqb-true, le-leb, leb-false, lt-leb, lt-ltb, or-cases, or-left, or-right}
+use Rattle.model.specs.declared.job.Job.{Job}
+use Rattle.model.specs.declared.job.TaskState.{TaskState}
 use Rattle.model.specs.InTime.{C, D, Partition, Passes, T, ceil, size, sum-before, supply}
-use Rattle.model.specs.Machine.{Job, TaskState, closed, one-on, overdue, put, ready, released}
+use Rattle.model.specs.Machine.{closed, one-on, overdue, put, ready, released}
 use Rattle.model.proofs.Firsts.{First}
 use Rattle.model.proofs.OnePartition.{Event, In-time-is-needed, Proper, State, after-work, fresh, is-open, late, may-release, release, run, runner, step, tick}
 use Rattle.model.proofs.Options.{none-some}

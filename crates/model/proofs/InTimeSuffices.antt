@@ -8,8 +8,10 @@ use Rattle.std.specs.Options.{isSome}
 use Rattle.std.specs.declared.option.Option.{Option}
 use Rattle.std.specs.declared.option.Option.the-variants.{None, Some}
 use Rattle.std.proofs.shelf.Tests.{and-parts, both-ways, cases-bool, cases-eq, cond-false, cond-true, leb-true, lt-leb, ltb-true}
+use Rattle.model.specs.declared.job.Job.{Job}
+use Rattle.model.specs.declared.job.TaskState.{TaskState}
 use Rattle.model.specs.InTime.{C, D, Partition, Passes, T, size}
-use Rattle.model.specs.Machine.{Job, TaskState, closed, overdue, put, ready, released}
+use Rattle.model.specs.Machine.{closed, overdue, put, ready, released}
 use Rattle.model.proofs.BusyWindows.{BusyWindow, admits, goes-on, starts, weaker}
 use Rattle.model.proofs.OnePartition.{Event, Proper, State, after-work, end, fresh, late, may-end, may-release, release, runner, step, tick}
 use Rattle.model.proofs.Options.{none-some}

@@ -11,12 +11,17 @@ use lib.ListN.{length}
 use Rattle.std.specs.declared.option.Option.{Option}
 use Rattle.std.specs.declared.option.Option.the-variants.{None, Some}
 use Rattle.std.proofs.shelf.Tests.{both-ways, cases-eq, cases-lt, cond-false, cond-true, eq-eqb, eqb-true, le-ltb, lt-ltb, ne-eqb}
+use Rattle.model.specs.declared.call.Call.{Call}
+use Rattle.model.specs.declared.call.Request.{Request}
+use Rattle.model.specs.declared.job.TaskState.{TaskState}
+use Rattle.model.specs.declared.reply.Reply.{Reply}
+use Rattle.model.specs.declared.task.Task.{Task}
 use Rattle.model.specs.declared.call.Call.the-variants.{Of as call, Tick as tick}
 use Rattle.model.specs.declared.refusal.Refusal.the-variants.{LastTick}
 use Rattle.model.specs.declared.reply.Reply.the-variants.{Refused as refused}
 use Rattle.model.specs.FlightRecords.{Entry, accepted, calls-of, concerns, flight, is-tick, names-other, own-entries, struck, ticks}
-use Rattle.model.specs.Machine.{Call, Engine, MachineState, PartitionState, Reply, Request, TaskState, after, asked, chosen, closed, answered, is-runner, last-tick, late, new, one-on, overdue, put, refusal, reply, runner, since-of, tick-reply, ticked, told, turn-reply, worked}
-use Rattle.model.specs.Modules.{Module, Task, has-partition, task-of, tasks-of}
+use Rattle.model.specs.Machine.{Engine, MachineState, PartitionState, after, asked, chosen, closed, answered, is-runner, last-tick, late, new, one-on, overdue, put, refusal, reply, runner, since-of, tick-reply, ticked, told, turn-reply, worked}
+use Rattle.model.specs.Modules.{Module, has-partition, task-of, tasks-of}
 use Rattle.model.specs.Promises.{Alike, Isolated}
 use Rattle.model.specs.Timetables.{owned-by, owner-at}
 use Rattle.model.proofs.Firsts.{first-same}

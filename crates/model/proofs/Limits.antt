@@ -8,7 +8,8 @@ use native.Mathlib.Omega.{arith}
 use lib.Dec.{leb}
 use lib.ListN.{List·getD-eq-default, length}
 use Rattle.std.proofs.shelf.Tests.{and-parts, cases-lt, leb-true}
-use Rattle.model.specs.Modules.{Has-task, Module, Task, all-within, module-within, partition-within, partitions-within, task-in, task-of, tasks-of, within-limits}
+use Rattle.model.specs.declared.task.Task.{Task}
+use Rattle.model.specs.Modules.{Has-task, Module, all-within, module-within, partition-within, partitions-within, task-in, task-of, tasks-of, within-limits}
 
 -- the limits of a module, task by task
 pub record Limits (m : Module) : Type 0 where

@@ -8,9 +8,10 @@ use lib.Dec.{leb, ltb}
 use Rattle.std.specs.declared.option.Option.{Option}
 use Rattle.std.specs.declared.option.Option.the-variants.{None}
 use Rattle.std.specs.Options.{isSome}
+use Rattle.model.specs.declared.job.TaskState.{TaskState}
 use Rattle.model.specs.Ranges.{first-such}
 use Rattle.model.specs.InTime.{Partition, size, C, T, D, Passes}
-use Rattle.model.specs.Machine.{TaskState, put, closed, is-runner, one-on, overdue, ready, released}
+use Rattle.model.specs.Machine.{put, closed, is-runner, one-on, overdue, ready, released}
 
 -- Costs, deadlines and periods keep their limits, and the order is one.
 pub record Proper (p : Partition) : Type 0 where

@@ -9,15 +9,19 @@ use Rattle.std.specs.Options.{isSome}
 use Rattle.std.specs.declared.option.Option.{Option}
 use Rattle.std.specs.declared.option.Option.the-variants.{None, Some}
 use Rattle.std.proofs.shelf.Tests.{cases-bool, cases-eq, cases-lt, cond-false, cond-true, le-ltb, lt-ltb}
+use Rattle.model.specs.declared.call.Call.{Call}
+use Rattle.model.specs.declared.call.Request.{Request}
+use Rattle.model.specs.declared.job.TaskState.{TaskState}
+use Rattle.model.specs.declared.refusal.Fault.{Fault}
+use Rattle.model.specs.declared.refusal.Refusal.{Refusal}
 use Rattle.model.specs.declared.call.Call.the-variants.{Of as call, Tick as tick}
 use Rattle.model.specs.declared.call.Request.the-variants.{Clear as clear, End as end, Fault as fault, Release as release}
 use Rattle.model.specs.declared.refusal.Refusal.the-variants.{NoOpenJob, NoSuchTask, TooSoon}
 use Rattle.model.specs.InTime.{Partition, partition, size}
-use Rattle.model.specs.Machine.{Call, Engine, MachineState, PartitionState, Request, TaskState, after, asked, by-order, chosen, closed, last-tick, late, noted, obeyed, put, ready, refusal, refused-of, released, runner, ticked, unless, worked}
+use Rattle.model.specs.Machine.{Engine, MachineState, PartitionState, after, asked, by-order, chosen, closed, last-tick, late, noted, obeyed, put, ready, refusal, refused-of, released, runner, ticked, unless, worked}
 use Rattle.model.specs.Modules.{Module, has-partition, task-of, tasks-of}
 use Rattle.model.specs.Orders.{Order}
 use Rattle.model.specs.Promises.{plain}
-use Rattle.model.specs.Refusals.{Fault, Refusal}
 use Rattle.model.specs.Timetables.{Timetable}
 use Rattle.model.proofs.OnePartition as one
 use Rattle.model.proofs.Turns.{put-other, put-same}

@@ -7,9 +7,10 @@ use Prim.Native.Nat.{_+_, _≤_, ℕ}
 use native.Mathlib.Omega.{arith}
 use Rattle.std.specs.declared.option.Option.the-variants.{None, Some}
 use Rattle.std.proofs.shelf.Tests.{both-ways}
+use Rattle.model.specs.declared.task.Task.{Task}
 use Rattle.model.specs.Decisions.{Least-q-is-decided}
 use Rattle.model.specs.InTime.{all-in-time, size}
-use Rattle.model.specs.Modules.{Task, task-of}
+use Rattle.model.specs.Modules.{task-of}
 use Rattle.model.specs.Orders.{Order}
 use Rattle.model.specs.Planning.{Enough, Least-q, least-q, with-first}
 use Rattle.model.proofs.Decisions.{decides-all-in-time, refuted}

@@ -13,15 +13,17 @@ use Rattle.std.specs.declared.option.Option.the-variants.{None, Some}
 use Rattle.std.specs.shelf.Lists.{sum}
 use Rattle.std.proofs.shelf.Sums.{sumBy-cons}
 use Rattle.std.proofs.shelf.Tests.{and-from, and-left, and-parts, and-right, both-ways, cases-eq, cases-lt, cond-both, cond-true, eq-eqb, eqb-true, le-leb, le-ltb, leb-true, lt-leb, lt-ltb, ltb-true, ne-eqb}
-use Rattle.model.specs.Answers.{Answer, and-then, granted, no-memory, refused}
+use Rattle.model.specs.declared.task.Task.{Task}
+use Rattle.model.specs.declared.window.Window.{Window}
+use Rattle.model.specs.Answers.{Answer, and-then, granted, refused}
 use Rattle.model.specs.Decisions.{Plans-clear}
 use Rattle.model.specs.InTime.{D, In-time, Partition, demand, in-time, partition, size, sum-before, supply}
-use Rattle.model.specs.Modules.{Module, Task, tasks-of}
+use Rattle.model.specs.Modules.{Module, tasks-of}
 use Rattle.model.specs.Orders.{Order}
 use Rattle.model.specs.Planning.{end-to-end, first-places, least-q, least-qs, plan, room-answer, windows-for, with-first, with-q}
 use Rattle.model.specs.Timetables.{Timetable, opened, owned-by, owner-at, window-owner, window-timetable}
 use Rattle.model.specs.Verdicts.{Cleared}
-use Rattle.model.specs.WindowLists.{Window, against, count-answer, end-of, frame-answer, list-answer, naming, overlap, window-answer, windows-answer}
+use Rattle.model.specs.WindowLists.{against, count-answer, end-of, frame-answer, list-answer, naming, overlap, window-answer, windows-answer}
 use Rattle.model.proofs.Decisions.{names-own}
 use Rattle.model.proofs.Gaps.{first-again}
 use Rattle.model.proofs.Limits.{has-part, limits}
@@ -29,7 +31,7 @@ use Rattle.model.proofs.Options.{none-some}
 use Rattle.model.proofs.Planning.{least-is}
 use Rattle.model.proofs.Sums.{sum-same}
 use Rattle.model.proofs.Supplies.{passes-everywhere}
-use Rattle.model.proofs.Timetables.{Grants, either-owner, frame-granted, refuses, then-grants, wants}
+use Rattle.model.proofs.Timetables.{Grants, either-owner, frame-granted, refuses, then-grants}
 
 -- what a plan is made of
 record Planned (order : Order) (m : Module) (f : ℕ) (ws : List Window) : Type 0 where
@@ -58,7 +60,6 @@ planned order m f n ws e = go (least-qs order f 0 m) refl (b .1)
         let v = picked (leb (sum qs) f) (end-to-end 0 0 qs) ws r in
         record { frame = frame-granted f (a .0); qs = qs; each = q; fits = leb-true _ _ (v .0); are = v .1 }
     go (refused k vs) q r = absurd (refuses k vs ws r)
-    go no-memory q r = absurd (wants ws r)
 
 -- each q of a plan is its partition's least
 abbrev Each : Order → ℕ → ℕ → Module → List ℕ → Type 0
@@ -87,7 +88,6 @@ each-q order f p (ks ∷ m) qs e = go (least-q order p ks f) refl (least-qs orde
         let P : List ℕ → Type 0 = λ y. Each order f p (ks ∷ m) y in
         subst P z (each-one order f p ks m q rs a (ih rs b))
     go (Some q) a (refused n vs) b ih r = absurd (refuses n vs qs r)
-    go (Some q) a no-memory b ih r = absurd (wants qs r)
 
 -- Where the windows lie.
 

@@ -12,15 +12,21 @@ use Rattle.std.specs.declared.option.Option.{Option}
 use Rattle.std.specs.declared.option.Option.the-variants.{None, Some}
 use Rattle.std.proofs.shelf.Lists.{append-assoc}
 use Rattle.std.proofs.shelf.Tests.{and-from, and-left, and-parts, and-right, both-ways, cases-bool, cases-eq, cases-lt, cond-false, cond-true, eq-eqb, eqb-true, lt-leb, lt-ltb, ltb-true, ne-eqb}
+use Rattle.model.specs.declared.call.Call.{Call}
+use Rattle.model.specs.declared.call.Request.{Request}
+use Rattle.model.specs.declared.job.Job.{Job}
+use Rattle.model.specs.declared.job.TaskState.{TaskState}
+use Rattle.model.specs.declared.refusal.Refusal.{Refusal}
+use Rattle.model.specs.declared.reply.Reply.{Reply}
+use Rattle.model.specs.declared.task.Task.{Task}
 use Rattle.model.specs.declared.call.Call.the-variants.{Of as call, Tick as tick}
 use Rattle.model.specs.declared.call.Request.the-variants.{Clear as clear, End as end, Fault as fault, Release as release}
 use Rattle.model.specs.declared.refusal.Refusal.the-variants.{NoOpenJob, NoSuchPartition, NoSuchTask, TooSoon}
 use Rattle.model.specs.declared.reply.Reply.the-variants.{Ran as ran, Refused as refused}
 use Rattle.model.specs.FlightRecords.{Entry, Flight-record, Served, accepted, asks-end, asks-release, calls-end, calls-release, ends, flight, how-many, is-tick, names-task, releases, runs, ticks, up-to}
-use Rattle.model.specs.Machine.{Call, DispatchRule, Engine, Job, MachineState, Reply, Request, TaskState, after, by-order, chosen, answered, is-runner, last-tick, new, one-on, put, ready, refusal, released, reply, runner, tick-reply, ticked, told, turn-reply, unless, worked}
-use Rattle.model.specs.Modules.{Module, Task, has-partition, task-of, tasks-of}
+use Rattle.model.specs.Machine.{DispatchRule, Engine, MachineState, after, by-order, chosen, answered, is-runner, last-tick, new, one-on, put, ready, refusal, released, reply, runner, tick-reply, ticked, told, turn-reply, unless, worked}
+use Rattle.model.specs.Modules.{Module, has-partition, task-of, tasks-of}
 use Rattle.model.specs.Promises.{Any-rule, Faithful, Never-late, On-time, Punctual, plain}
-use Rattle.model.specs.Refusals.{Refusal}
 use Rattle.model.specs.Timetables.{Timetable, owned-by, owner-at}
 use Rattle.model.proofs.ClearedNeverLate.{never}
 use Rattle.model.proofs.Isolation.{clock}

@@ -10,13 +10,19 @@ use lib.ListN.{length}
 use Rattle.std.specs.declared.option.Option.{Option}
 use Rattle.std.specs.declared.option.Option.the-variants.{None, Some}
 use Rattle.std.proofs.shelf.Tests.{and-parts, cases-bool, cases-eq, cases-lt, cond-false, cond-true, le-ltb, leb-false, lt-ltb, ltb-true}
+use Rattle.model.specs.declared.call.Call.{Call}
+use Rattle.model.specs.declared.call.Request.{Request}
+use Rattle.model.specs.declared.job.Job.{Job}
+use Rattle.model.specs.declared.job.TaskState.{TaskState}
+use Rattle.model.specs.declared.reply.Reply.{Reply}
+use Rattle.model.specs.declared.task.Task.{Task}
 use Rattle.model.specs.declared.call.Call.the-variants.{Of as call, Tick as tick}
 use Rattle.model.specs.declared.call.Request.the-variants.{Clear as clear, End as end, Fault as fault, Release as release}
 use Rattle.model.specs.declared.refusal.Refusal.the-variants.{LastTick}
 use Rattle.model.specs.declared.reply.Reply.the-variants.{Refused as refused}
 use Rattle.model.specs.FlightRecords.{Closes-late, Entry, flight, flown}
-use Rattle.model.specs.Machine.{Call, DispatchRule, Engine, Job, MachineState, PartitionState, Reply, Request, TaskState, after, chosen, closed, is-runner, last-tick, late, new, one-on, overdue, put, released, reply, runner, tick-reply, ticked, worked}
-use Rattle.model.specs.Modules.{Module, Task, has-partition, task-of, tasks-of}
+use Rattle.model.specs.Machine.{DispatchRule, Engine, MachineState, PartitionState, after, chosen, closed, is-runner, last-tick, late, new, one-on, overdue, put, released, reply, runner, tick-reply, ticked, worked}
+use Rattle.model.specs.Modules.{Module, has-partition, task-of, tasks-of}
 use Rattle.model.specs.Promises.{Never-late, executive, plain}
 use Rattle.model.specs.Timetables.{Timetable, owner-at}
 use Rattle.model.proofs.Limits.{Limits}

@@ -11,9 +11,10 @@ use lib.ListN.{length}
 use Rattle.std.specs.declared.option.Option.{Option}
 use Rattle.std.specs.declared.option.Option.the-variants.{None, Some}
 use Rattle.std.proofs.shelf.Tests.{and-parts, cond-true, leb-true, ltb-true}
-use Rattle.model.specs.Answers.{Answer, and-then, granted, no-memory, refused}
+use Rattle.model.specs.declared.window.Window.{Window}
+use Rattle.model.specs.Answers.{Answer, and-then, granted, refused}
 use Rattle.model.specs.Timetables.{Covered-once, Lawful-timetable, Timetable, Timetables-are-lawful, bare-frame, covers, cycle-answer, opened, share-owner, share-timetable, shifted, window-owner, window-timetable}
-use Rattle.model.specs.WindowLists.{Neighbours, Window, count-answer, end-of, frame-answer, in-frame, list-answer, naming, overlap, window-answer, windows-answer}
+use Rattle.model.specs.WindowLists.{Neighbours, count-answer, end-of, frame-answer, in-frame, list-answer, naming, overlap, window-answer, windows-answer}
 use Rattle.model.proofs.Options.{none-some}
 
 -- an answer that grants
@@ -23,14 +24,10 @@ Grants a = (u : Unit {0}) × (a ≡ granted u)
 pub refuses : {A : Type 0} (n : ℕ) (vs : List ℕ) (a : A) → _≡_ {A = Answer A} (refused n vs) (granted a) → ⊥
 refuses n vs a e = let z : _≡_ {A = ℕ} 0 1 = cc in omega arith
 
-pub wants : {A : Type 0} (a : A) → _≡_ {A = Answer A} no-memory (granted a) → ⊥
-wants a e = let z : _≡_ {A = ℕ} 0 1 = cc in omega arith
-
 -- what comes second is granted only where both are
 pub then-grants : {A : Type 0} (a : Answer (Unit {0})) (b : Answer A) (x : A) → and-then a b ≡ granted x → Grants a × (b ≡ granted x)
 then-grants (granted u) b x e = ((u, refl), e)
 then-grants (refused n vs) b x e = absurd (refuses n vs x e)
-then-grants no-memory b x e = absurd (wants x e)
 
 both-grant : (a b : Answer (Unit {0})) → Grants (and-then a b) → Grants a × Grants b
 both-grant a b h = let v = then-grants a b (h .0) (h .1) in (v .0, (h .0, v .1))
@@ -50,7 +47,6 @@ pub opened-lawful : (a : Answer (Unit {0})) (t : Timetable) → (Grants a → La
 unfolding opened
 opened-lawful (granted u) t h = h (u, refl)
 opened-lawful (refused n vs) t h = bare-lawful
-opened-lawful no-memory t h = bare-lawful
 
 pub either-owner : (b : Bool) (q p : ℕ) (o : Option ℕ) → cond b (Some q) o ≡ Some p → (q ≡ p) ⊎ (o ≡ Some p)
 either-owner true q p o e = let z : q ≡ p = cc in inl z

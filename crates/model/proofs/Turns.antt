@@ -9,8 +9,10 @@ use Rattle.std.specs.Options.{isSome}
 use Rattle.std.specs.declared.option.Option.{Option}
 use Rattle.std.specs.declared.option.Option.the-variants.{None, Some}
 use Rattle.std.proofs.shelf.Tests.{both-ways, cases-eq, cond-false, cond-true, eq-eqb, leb-false, leb-true, ne-eqb}
+use Rattle.model.specs.declared.job.Job.{Job}
+use Rattle.model.specs.declared.job.TaskState.{TaskState}
 use Rattle.model.specs.InTime.{C, Partition, size}
-use Rattle.model.specs.Machine.{Job, TaskState, is-runner, one-on, put, ready, released}
+use Rattle.model.specs.Machine.{is-runner, one-on, put, ready, released}
 use Rattle.model.specs.Ranges.{first-such}
 use Rattle.model.proofs.Firsts.{First, Found, None-passes, found}
 use Rattle.model.proofs.OnePartition.{Proper, State, after-work, is-open, runner}

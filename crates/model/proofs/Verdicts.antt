@@ -8,6 +8,8 @@ use lib.ListN.{length}
 use Rattle.std.specs.declared.option.Option.{Option}
 use Rattle.std.specs.declared.option.Option.the-variants.{None, Some}
 use Rattle.std.proofs.shelf.Tests.{both-ways, cases-bool, not-false, not-true}
+use Rattle.model.specs.declared.verdict.LateTask.{LateTask}
+use Rattle.model.specs.declared.verdict.Verdict.{Verdict}
 use Rattle.model.specs.declared.verdict.Verdict.the-variants.{Cleared as is-cleared, Foreign as is-foreign, Late as is-late}
 use Rattle.model.specs.Decisions.{Verdict-is-decided}
 use Rattle.model.specs.InTime.{In-time, Partition, Passes, in-time, partition, passes, size}
@@ -15,7 +17,7 @@ use Rattle.model.specs.Modules.{Has-task, Module}
 use Rattle.model.specs.Orders.{Order}
 use Rattle.model.specs.Ranges.{first-found}
 use Rattle.model.specs.Timetables.{Timetable}
-use Rattle.model.specs.Verdicts.{First-foreign, First-late, LateTask, Lawful, Names-own, Says, Verdict, failing-start, finding, first-late, foreign-place, late-at, late-task, owner-known, verdict-by, verdict-on}
+use Rattle.model.specs.Verdicts.{First-foreign, First-late, Lawful, Names-own, Says, failing-start, finding, first-late, foreign-place, late-at, late-task, owner-known, verdict-by, verdict-on}
 use Rattle.model.proofs.ClearedNeverLate.{proper}
 use Rattle.model.proofs.Decisions.{decides-in-time, decides-passes, known, names-own, own-named, to-unknown, unknown}
 use Rattle.model.proofs.Firsts.{First, Found, found}

@@ -2,22 +2,30 @@
 use mathlib.Core.Path.{_≡_}
 use mathlib.Core.List.{List}
 use Prim.Native.Nat.{ℕ}
+use Rattle.std.specs.declared.option.Option.{Option}
+use Rattle.std.specs.declared.option.Option.the-variants.{Some, None}
 
--- A call gives a value, or is refused: the refusal's number, with the values that it names. Where memory is wanting a
--- call may say so in place of its answer.
+-- A call gives a value, or is refused: the refusal's number, with the values that it names.
 pub data Answer (A : Type 0) : Type 0 where
   granted : A → Answer A
   refused : ℕ → List ℕ → Answer A
-  no-memory : Answer A
-
--- the first answer is the second, unless it says that memory is wanting
-abbrev pub Gives : {A : Type 0} → Answer A → Answer A → Type 0
-Gives (granted x) b = granted x ≡ b
-Gives (refused n vs) b = refused n vs ≡ b
-Gives no-memory b = Unit {0}
 
 -- the second answer, where the first call is not refused
 abbrev pub and-then : {A B : Type 0} → Answer A → Answer B → Answer B
 and-then (granted x) b = b
 and-then (refused n vs) b = refused n vs
-and-then no-memory b = no-memory
+
+-- what a call leaves of something: changed where the call is granted, else as it was
+abbrev pub leaves : {A B : Type 0} → Answer A → B → B → B
+leaves (granted x) changed was = changed
+leaves (refused n vs) changed was = was
+
+-- A call that allocates may say that memory is wanting, in place of its answer: that is `None` below. It then leaves
+-- everything as it was, and P says when it may come to that.
+abbrev pub Gives : {A : Type 0} → Option A → A → Type 0 → Type 0
+Gives (Some a) b P = a ≡ b
+Gives None b P = P
+
+abbrev pub leaves-if : {A B : Type 0} → Option (Answer A) → B → B → B
+leaves-if (Some a) changed was = leaves a changed was
+leaves-if None changed was = was

@@ -6,13 +6,16 @@ use mathlib.Core.Logic.{_↔_}
 use Prim.Native.Nat.{ℕ, _≤_}
 use Rattle.std.specs.declared.option.Option.the-variants.{Some, None}
 use Rattle.std.specs.Orderings.{Decides}
-use Rattle.model.specs.Modules.{Task, Module, module-within}
+use Rattle.model.specs.declared.task.Task.{Task}
+use Rattle.model.specs.declared.verdict.Verdict.{Verdict}
+use Rattle.model.specs.declared.window.Window.{Window}
+use Rattle.model.specs.Modules.{Module, module-within}
 use Rattle.model.specs.Answers.{granted}
-use Rattle.model.specs.WindowLists.{Window, overlap, list-answer}
+use Rattle.model.specs.WindowLists.{overlap, list-answer}
 use Rattle.model.specs.Timetables.{Timetable, window-timetable}
 use Rattle.model.specs.Orders.{Order}
 use Rattle.model.specs.InTime.{Partition, passes, Passes, in-time, In-time}
-use Rattle.model.specs.Verdicts.{Verdict, Lawful, cleared, Cleared, verdict-on, Says}
+use Rattle.model.specs.Verdicts.{Lawful, cleared, Cleared, verdict-on, Says}
 use Rattle.model.specs.Planning.{Enough, least-q, Least-q, plan}
 
 -- The tests decide whether a task passes, whether it is in time, and whether a module is cleared.

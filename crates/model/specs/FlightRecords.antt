@@ -5,9 +5,12 @@ use mathlib.Core.Bool.{Bool, true, false, cond, not, _&&_}
 use mathlib.Core.Logic.{_⊎_}
 use Prim.Native.Nat.{ℕ, _+_, _≤_, _<_}
 use lib.Dec.{eqb}
+use Rattle.model.specs.declared.call.Call.{Call}
+use Rattle.model.specs.declared.call.Request.{Request}
+use Rattle.model.specs.declared.reply.Reply.{Reply}
 use Rattle.model.specs.Modules.{Module, Has-task, tasks-of}
 use Rattle.model.specs.Timetables.{Timetable, owner-at, owned-by}
-use Rattle.model.specs.Machine.{Request, Call, Reply, Engine, MachineState, new, reply, after, late, last-tick}
+use Rattle.model.specs.Machine.{Engine, MachineState, new, reply, after, late, last-tick}
 use Rattle.model.specs.declared.call.Request.the-variants.{Release as release, End as end, Fault as fault, Clear as clear}
 use Rattle.model.specs.declared.call.Call.the-variants.{Tick as tick, Of as call}
 use Rattle.model.specs.declared.reply.Reply.the-variants.{Refused as refused, Spare as spare, Idle as idle, Ran as ran, Due as due, Count as count, Entry as entry, Emptied as emptied}

@@ -4,7 +4,8 @@ use mathlib.Core.List.{List}
 use Prim.Native.Nat.{ℕ, _+_, _-_, _*_, _/_, _≤_, _<_}
 use lib.Dec.{leb}
 use lib.ListN.{length}
-use Rattle.model.specs.Modules.{Task, Module, task-of, tasks-of}
+use Rattle.model.specs.declared.task.Task.{Task}
+use Rattle.model.specs.Modules.{Module, task-of, tasks-of}
 use Rattle.model.specs.Timetables.{Timetable, owner-at, owned-by}
 use Rattle.model.specs.Orders.{Order, record-of}
 use Rattle.model.specs.Ranges.{sum-below, some-upto, all-below}

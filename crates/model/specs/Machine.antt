@@ -7,17 +7,20 @@ use lib.ListN.{length, getD}
 use Rattle.std.specs.declared.option.Option.{Option}
 use Rattle.std.specs.declared.option.Option.the-variants.{Some, None}
 use Rattle.std.specs.Options.{isSome}
-use Rattle.model.specs.Modules.{Task, Module, task-of, tasks-of, has-partition}
+use Rattle.model.specs.declared.call.Call.{Call}
+use Rattle.model.specs.declared.call.Request.{Request}
+use Rattle.model.specs.declared.job.Job.{Job}
+use Rattle.model.specs.declared.job.TaskState.{TaskState}
+use Rattle.model.specs.declared.refusal.Fault.{Fault}
+use Rattle.model.specs.declared.refusal.Refusal.{Refusal}
+use Rattle.model.specs.declared.reply.Progress.{Progress}
+use Rattle.model.specs.declared.reply.Reply.{Reply}
+use Rattle.model.specs.declared.task.Task.{Task}
+use Rattle.model.specs.declared.task_record.TaskRecord.{TaskRecord}
+use Rattle.model.specs.Modules.{Module, task-of, tasks-of, has-partition}
 use Rattle.model.specs.Timetables.{Timetable, owner-at, owned-by}
-use Rattle.model.specs.Orders.{TaskRecord, Order, record-of}
+use Rattle.model.specs.Orders.{Order, record-of}
 use Rattle.model.specs.Ranges.{first-such}
-use Rattle.model.specs.Refusals.{Refusal, Fault}
-pub use Rattle.model.specs.declared.job.Job.{Job}
-pub use Rattle.model.specs.declared.job.TaskState.{TaskState}
-pub use Rattle.model.specs.declared.call.Request.{Request}
-pub use Rattle.model.specs.declared.call.Call.{Call}
-pub use Rattle.model.specs.declared.reply.Progress.{Progress}
-pub use Rattle.model.specs.declared.reply.Reply.{Reply}
 use Rattle.model.specs.declared.refusal.Refusal.the-variants.{NoSuchPartition, NoSuchTask, TooSoon, NoOpenJob, NoSuchFault, LastTick}
 use Rattle.model.specs.declared.call.Request.the-variants.{Release as release, End as end, Fault as fault, Clear as clear}
 use Rattle.model.specs.declared.call.Call.the-variants.{Tick as tick, Of as call}

@@ -6,7 +6,7 @@ use lib.Dec.{leb, ltb}
 use lib.ListN.{length, getD}
 use Rattle.std.specs.declared.option.Option.{Option}
 use Rattle.std.specs.declared.option.Option.the-variants.{Some, None}
-pub use Rattle.model.specs.declared.task.Task.{Task}
+use Rattle.model.specs.declared.task.Task.{Task}
 
 -- a task by its cost, period and deadline
 abbrev pub task : ℕ → ℕ → ℕ → Task

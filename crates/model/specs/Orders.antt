@@ -4,8 +4,9 @@ use mathlib.Core.Bool.{Bool, true, false, not, _&&_, _||_}
 use mathlib.Core.List.{List}
 use Prim.Native.Nat.{ℕ, _<_}
 use lib.Dec.{ltb, eqb}
-use Rattle.model.specs.Modules.{Task, within-limits, task-of}
-pub use Rattle.model.specs.declared.task_record.TaskRecord.{TaskRecord}
+use Rattle.model.specs.declared.task.Task.{Task}
+use Rattle.model.specs.Modules.{within-limits, task-of}
+use Rattle.model.specs.declared.task_record.TaskRecord.{TaskRecord}
 
 -- task i of a list with its number
 unfoldable pub record-of : List Task → ℕ → TaskRecord

@@ -7,9 +7,11 @@ use lib.ListN.{length, drop}
 use Rattle.std.specs.declared.option.Option.{Option}
 use Rattle.std.specs.declared.option.Option.the-variants.{Some, None}
 use Rattle.std.specs.shelf.Lists.{sum}
-use Rattle.model.specs.Modules.{Task, Module}
-use Rattle.model.specs.Answers.{Answer, granted, refused, no-memory, and-then}
-use Rattle.model.specs.WindowLists.{Window, frame-answer}
+use Rattle.model.specs.declared.task.Task.{Task}
+use Rattle.model.specs.declared.window.Window.{Window}
+use Rattle.model.specs.Modules.{Module}
+use Rattle.model.specs.Answers.{Answer, granted, refused, and-then}
+use Rattle.model.specs.WindowLists.{frame-answer}
 use Rattle.model.specs.Orders.{Order}
 use Rattle.model.specs.InTime.{Partition, partition-of, In-time, all-in-time}
 use Rattle.model.specs.Ranges.{least-below}
@@ -41,7 +43,6 @@ unfoldable pub with-q : ℕ → Option ℕ → Answer (List ℕ) → Answer (Lis
 with-q p None others = refused 61 (p ∷ [])
 with-q p (Some q) (granted qs) = granted (q ∷ qs)
 with-q p (Some q) (refused n vs) = refused n vs
-with-q p (Some q) no-memory = no-memory
 
 -- the least q of partition p and of those after it
 unfoldable pub least-qs : Order → ℕ → ℕ → Module → Answer (List ℕ)
@@ -58,7 +59,6 @@ end-to-end p x (q ∷ qs) =
 unfoldable pub windows-for : ℕ → Answer (List ℕ) → Answer (List Window)
 windows-for f (granted qs) = cond (leb (sum qs) f) (granted (end-to-end 0 0 qs)) (refused 62 [])
 windows-for f (refused n vs) = refused n vs
-windows-for f no-memory = no-memory
 
 -- a list for windows has at least 8 places
 abbrev pub room-answer : ℕ → Answer (Unit {0})

@@ -5,11 +5,13 @@ use mathlib.Core.Bool.{true, false}
 use mathlib.Core.Logic.{_↔_}
 use Prim.Native.Nat.{ℕ, _≤_, _<_}
 use lib.ListN.{length}
-use Rattle.model.specs.Modules.{Task, Module, task-in, tasks-of, module-within}
+use Rattle.model.specs.declared.call.Call.{Call}
+use Rattle.model.specs.declared.task.Task.{Task}
+use Rattle.model.specs.Modules.{Module, task-in, tasks-of, module-within}
 use Rattle.model.specs.Timetables.{Timetable, Lawful-timetable, owned-by}
 use Rattle.model.specs.Orders.{Order}
 use Rattle.model.specs.Verdicts.{Lawful, Names-own, Cleared}
-use Rattle.model.specs.Machine.{Call, DispatchRule, open-job, Engine, by-order, new}
+use Rattle.model.specs.Machine.{DispatchRule, open-job, Engine, by-order, new}
 use Rattle.model.specs.FlightRecords.{Entry, flown, flight, Flight-record, Late-record, releases, ticks, how-many, Served, struck, calls-of, own-entries}
 
 -- the plain machine's engine: its ticks look for late jobs

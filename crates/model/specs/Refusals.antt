@@ -1,7 +1,6 @@
 -- Refused calls of a running module, by their numbers.
 use Prim.Native.Nat.{ℕ}
-pub use Rattle.model.specs.declared.refusal.Refusal.{Refusal}
-pub use Rattle.model.specs.declared.refusal.Fault.{Fault}
+use Rattle.model.specs.declared.refusal.Refusal.{Refusal}
 use Rattle.model.specs.declared.refusal.Refusal.the-variants as refusal
 
 -- the number of a refusal

@@ -3,7 +3,7 @@ use mathlib.Core.Path.{_≡_}
 use mathlib.Core.Bool.{true, false}
 use mathlib.Core.List.{List}
 use Prim.Native.Nat.{ℕ, _+_, _%_, _≤_, _<_}
-use Rattle.model.specs.Modules.{Task}
+use Rattle.model.specs.declared.task.Task.{Task}
 use Rattle.model.specs.Orders.{Order}
 use Rattle.model.specs.InTime.{Partition, supply, Passes-in}
 use Rattle.model.specs.Planning.{with-first}

@@ -8,8 +8,9 @@ use lib.ListN.{length}
 use Rattle.std.specs.declared.option.Option.{Option}
 use Rattle.std.specs.declared.option.Option.the-variants.{Some, None}
 use Rattle.std.specs.shelf.Lists.{sum}
-use Rattle.model.specs.Answers.{Answer, granted, refused, no-memory, and-then}
-use Rattle.model.specs.WindowLists.{Window, Neighbours, overlap, end-of, frame-answer, list-answer}
+use Rattle.model.specs.declared.window.Window.{Window}
+use Rattle.model.specs.Answers.{Answer, granted, refused, and-then}
+use Rattle.model.specs.WindowLists.{Neighbours, overlap, end-of, frame-answer, list-answer}
 
 -- A timetable: how many places its frame has, and the partition that owns each place, if one does.
 pub record Timetable : Type 0 where
@@ -38,7 +39,6 @@ bare-frame = record { frame = 1; owner = λ _. None }
 unfoldable pub opened : Answer (Unit {0}) → Timetable → Timetable
 opened (granted u) t = t
 opened (refused n vs) t = bare-frame
-opened no-memory t = bare-frame
 
 -- the window covers the place x
 abbrev pub covers : Window → ℕ → Bool

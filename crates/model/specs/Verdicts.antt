@@ -13,8 +13,8 @@ use Rattle.model.specs.Timetables.{Timetable, Lawful-timetable}
 use Rattle.model.specs.Orders.{Order, Lawful-order}
 use Rattle.model.specs.InTime.{Partition, partition, size, Passes, In-time, passes, in-time, all-in-time}
 use Rattle.model.specs.Ranges.{all-below, first-found, least-below, first-such}
-pub use Rattle.model.specs.declared.verdict.LateTask.{LateTask}
-pub use Rattle.model.specs.declared.verdict.Verdict.{Verdict}
+use Rattle.model.specs.declared.verdict.LateTask.{LateTask}
+use Rattle.model.specs.declared.verdict.Verdict.{Verdict}
 use Rattle.model.specs.declared.verdict.Verdict.the-variants.{Cleared as is-cleared, Foreign as is-foreign, Late as is-late}
 
 -- A timetable, an order and a module that keep their laws and limits.

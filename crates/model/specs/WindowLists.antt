@@ -7,7 +7,7 @@ use lib.ListN.{length}
 use Rattle.std.specs.declared.option.Option.{Option}
 use Rattle.std.specs.declared.option.Option.the-variants.{Some, None}
 use Rattle.model.specs.Answers.{Answer, granted, refused, and-then}
-pub use Rattle.model.specs.declared.window.Window.{Window}
+use Rattle.model.specs.declared.window.Window.{Window}
 
 -- the frame has 1 to 1024 ticks
 abbrev pub frame-answer : ℕ → Answer (Unit {0})

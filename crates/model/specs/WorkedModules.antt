@@ -6,16 +6,19 @@ use mathlib.Core.Logic.{_↔_}
 use Prim.Native.Nat.{ℕ, _+_, _-_, _≤_, _<_}
 use lib.ListN.{replicate}
 use Rattle.std.specs.declared.option.Option.the-variants.{Some, None}
+use Rattle.model.specs.declared.call.Call.{Call}
+use Rattle.model.specs.declared.reply.Reply.{Reply}
+use Rattle.model.specs.declared.window.Window.{Window}
 use Rattle.model.specs.Modules.{Module, task, tasks-of}
 use Rattle.model.specs.Answers.{Answer, granted, refused}
-use Rattle.model.specs.WindowLists.{Window, overlap}
+use Rattle.model.specs.WindowLists.{overlap}
 use Rattle.model.specs.Timetables.{Timetable, window-timetable, share-timetable, shifted, bare-frame}
 use Rattle.model.specs.Orders.{Order, listed, by-deadline}
 use Rattle.model.specs.InTime.{Partition, partition, supply, demand, Passes}
 use Rattle.model.specs.Verdicts.{Lawful, verdict-on, verdict-answer}
 use Rattle.model.specs.Planning.{least-q, plan}
 use Rattle.model.specs.Refusals.{number}
-use Rattle.model.specs.Machine.{Call, Reply, Engine, MachineState, PartitionState, by-order, new, late, noted, last-tick}
+use Rattle.model.specs.Machine.{Engine, MachineState, PartitionState, by-order, new, late, noted, last-tick}
 use Rattle.model.specs.FlightRecords.{flight, flown, Late-record}
 use Rattle.model.specs.Promises.{plain}
 use Rattle.model.specs.declared.refusal.Refusal.the-variants.{NotCleared, NoSuchPartition, NoSuchTask, TooSoon, NoOpenJob, NoSuchFault, LastTick}

@@ -1,0 +1,5 @@
+// A tape as text: a line a command, or one line for the refusal.
+mod contents;
+mod line;
+
+pub use contents::listing;

@@ -1,0 +1,9 @@
+pub mod Again
+pub mod Commands
+pub mod Lengths
+pub mod Lists
+pub mod Plays
+pub mod Reading
+pub mod RoundTrip
+pub mod SoFar
+pub mod Words

@@ -1,0 +1,35 @@
+// Load tapes: the commands, their bytes and their faults, and the definitions of reading and writing.
+mod command;
+mod commanded;
+mod fault;
+mod theorem;
+
+pub use command::Command;
+pub use command::CommandDebug;
+pub use command::CommandEq;
+pub use command::CommandPartialEq;
+pub use command::Turn;
+pub use command::TurnDebug;
+pub use command::TurnEq;
+pub use command::TurnPartialEq;
+pub use command::next_command;
+pub use commanded::Commanded;
+pub use commanded::TaskCommanded;
+pub use commanded::WindowCommanded;
+pub use fault::CommandFault;
+pub use fault::CommandFaultDebug;
+pub use fault::CommandFaultEq;
+pub use fault::CommandFaultFromDraft;
+pub use fault::CommandFaultFromRefused;
+pub use fault::CommandFaultFromTape;
+pub use fault::CommandFaultFromWindows;
+pub use fault::CommandFaultPartialEq;
+pub use fault::Layer;
+pub use fault::LayerDebug;
+pub use fault::LayerEq;
+pub use fault::LayerPartialEq;
+pub use fault::TapeFault;
+pub use fault::TapeFaultDebug;
+pub use fault::TapeFaultEq;
+pub use fault::TapeFaultPartialEq;
+pub use theorem::round_trip_stands;

@@ -1,0 +1,2 @@
+mod Located
+mod Whole
