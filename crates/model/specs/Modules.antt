@@ -1,8 +1,8 @@
 -- Modules: partitions with their tasks, and the limits that both keep.
 use mathlib.Core.Bool.{Bool, true, cond, _&&_}
 use mathlib.Core.List.{List, [], _∷_}
-use Prim.Native.Nat.{ℕ}
-use lib.Dec.{leb}
+use Prim.Native.Nat.{ℕ, _<_}
+use lib.Dec.{leb, ltb}
 use lib.ListN.{length, getD}
 use Rattle.std.specs.declared.option.Option.{Option}
 use Rattle.std.specs.declared.option.Option.the-variants.{Some, None}
@@ -43,3 +43,19 @@ partitions-within (ks ∷ m) = partition-within ks && partitions-within m
 -- a module that keeps the limits: at most 8 partitions
 abbrev pub module-within : Module → Bool
 module-within m = leb (length m) 8 && partitions-within m
+
+-- task i of a list
+unfoldable pub task-of : List Task → ℕ → Task
+task-of ks i = getD ks i (task 0 0 0)
+
+-- task i of partition p
+abbrev pub task-in : Module → ℕ → ℕ → Task
+task-in m p i = task-of (tasks-of m p) i
+
+-- partition p has a task i
+abbrev pub Has-task : Module → ℕ → ℕ → Type 0
+Has-task m p i = i < length (tasks-of m p)
+
+-- the module has partition p
+abbrev pub has-partition : Module → ℕ → Bool
+has-partition m p = ltb p (length m)

@@ -1,11 +1,42 @@
-// The vocabulary that every crate shares: tasks and windows, and the limits that they keep.
+// The vocabulary that every crate shares: tasks and windows with their limits, jobs, calls and what they answer, and
+// verdicts; and the theorems on the definitions.
+mod call;
+mod job;
+mod refusal;
+mod reply;
 mod task;
+mod task_record;
+pub mod theorems;
+mod verdict;
 mod window;
 
+pub use call::Call;
+pub use call::Request;
+pub use job::Job;
+pub use job::TaskState;
+pub use refusal::Fault;
+pub use refusal::FaultEq;
+pub use refusal::FaultPartialEq;
+pub use refusal::Refusal;
+pub use refusal::RefusalEq;
+pub use refusal::RefusalPartialEq;
+pub use reply::Progress;
+pub use reply::ProgressEq;
+pub use reply::ProgressPartialEq;
+pub use reply::Reply;
+pub use reply::ReplyEq;
+pub use reply::ReplyPartialEq;
 pub use task::Task;
 pub use task::TaskDebug;
 pub use task::TaskEq;
 pub use task::TaskPartialEq;
+pub use task_record::TaskRecord;
+pub use verdict::LateTask;
+pub use verdict::LateTaskEq;
+pub use verdict::LateTaskPartialEq;
+pub use verdict::Verdict;
+pub use verdict::VerdictEq;
+pub use verdict::VerdictPartialEq;
 pub use window::Window;
 pub use window::WindowDebug;
 pub use window::WindowEq;
