@@ -23,7 +23,7 @@ use Rattle.tape.specs.Commands.{bytes, encode}
 use Rattle.tape.specs.Decode.{word-at, whole, operands, in-turn, admits, command}
 use Rattle.tape.specs.Loading.{Progress, Contents, done, contents, nothing-read, is-end, ended, next, after-next, decode-from}
 use Rattle.tape.specs.RoundTrip.{Bytes, Writes-again}
-use Rattle.tape.proofs.Reading.{Standing, standing-start, standing-next, standing-again, Parts, parts}
+use Rattle.tape.proofs.Reading.{Standing, standing-start, standing-next, standing-again, next-read}
 use Rattle.tape.proofs.Words.{task-there, frame-there, window-there, byte-there}
 
 -- the bytes of a command that was read stand at the front
@@ -53,13 +53,13 @@ module _ (xs : List ℕ) (fits : Bytes xs) (c : Command) (rest : List ℕ) where
   in-turn-there (Some false) e = let z : _≡_ {A = ℕ} 0 1 = cc in absurd (omega arith)
   in-turn-there (Some true) e = e
 
-  command-bytes : (t : Turn) → command t xs ≡ Ok (c, rest) → xs ≡ bytes c ++ rest
+  pub command-bytes : (t : Turn) → command t xs ≡ Ok (c, rest) → xs ≡ bytes c ++ rest
   command-bytes t =
       cond-both (eqb (length xs) 0) _ _ (λ r. r ≡ Ok (c, rest) → xs ≡ bytes c ++ rest)
       (λ l e. let z : _≡_ {A = ℕ} 0 1 = cc in absurd (omega arith))
       (λ l e. operands-there (in-turn-there (admits t (getD xs 0 0)) e))
 
-  bytes-after : xs ≡ bytes c ++ rest → Bytes rest
+  pub bytes-after : xs ≡ bytes c ++ rest → Bytes rest
   bytes-after e i =
       subst (λ v. v < 256) (ap (λ ys. getD ys (length (bytes c) + i) 0) e ∙ getD-append-add (bytes c) rest i 0) (fits (length (bytes c) + i))
 
@@ -71,8 +71,7 @@ module _ (tape : List ℕ) (t : Contents) where
   module _ (l : Progress) (xs : List ℕ) (at : Standing tape l xs) (fits : Bytes xs) where
     module _ (c : Command) (rest : List ℕ) (then : Progress) (r : next l xs ≡ Ok (c, rest, then)) where
       front : xs ≡ bytes c ++ rest
-      unfolding Parts
-      front = command-bytes xs fits c rest (l .turn) (parts l c rest then (command (l .turn) xs) r .0)
+      front = command-bytes xs fits c rest (l .turn) (next-read l xs c rest then r)
 
       at-end : is-end c ≡ true → ended (length tape) then rest ≡ done t → Holds
       unfolding Holds

@@ -15,7 +15,8 @@ use Rattle.tape.specs.declared.command.Command.{Command}
 use Rattle.tape.specs.declared.command.Command.the-variants.{Partition, Task, Frame, Window, End}
 use Rattle.tape.specs.declared.command.Turn.{Turn}
 use Rattle.tape.specs.Commands.{bytes}
-use Rattle.tape.specs.Decode.{before-frame, in-partition, after-frame, admits, operands, in-turn, command}
+use Rattle.tape.specs.FirstFault.{follows}
+use Rattle.tape.specs.Decode.{admits, operands, in-turn, command}
 
 reads-back : (c : Command) (more : List ℕ) → operands (bytes c ++ more) ≡ Ok (c, more)
 reads-back Partition more = search needs
@@ -30,14 +31,6 @@ reads-back (Window w) more =
     let f = div-add-mod (w .length) 256 in
     search needs
 reads-back End more = search needs
-
--- whether a command is in its turn
-abbrev pub follows : Turn → Command → Bool
-follows t Partition = before-frame t
-follows t (Task c p d) = in-partition t
-follows t (Frame f) = before-frame t
-follows t (Window w) = after-frame t
-follows t End = after-frame t
 
 command-some : (t : Turn) (xs : List ℕ) → 0 < length xs → command t xs ≡ in-turn (admits t (getD xs 0 0)) (operands xs)
 command-some t xs h =

@@ -1,5 +1,6 @@
 pub mod Again
 pub mod Commands
+pub mod FirstFault
 pub mod Lengths
 pub mod Lists
 pub mod Plays

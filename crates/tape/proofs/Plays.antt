@@ -1,6 +1,6 @@
 -- A module's commands are obeyed one after another, and leave the module.
 use mathlib.Core.Path.{_≡_, refl, sym, ap, subst, _∙_}
-use mathlib.Core.Bool.{true, false}
+use mathlib.Core.Bool.{true}
 use mathlib.Core.List.{List, [], _∷_, _++_, map}
 use Prim.Native.Nat.{ℕ, _+_, _-_, _<_, _≤_}
 use native.Mathlib.Omega.{arith}
@@ -26,15 +26,10 @@ use Rattle.tape.specs.declared.fault.Layer.{Layer}
 use Rattle.tape.specs.declared.fault.Layer.the-variants.{Draft, Windows}
 use Rattle.tape.specs.Commands.{task-command, partition-commands}
 use Rattle.tape.specs.Decode.{before-frame, in-partition}
-use Rattle.tape.specs.Loading.{Progress, newest, last-of, in-layer, obeyed, is-end}
+use Rattle.tape.specs.Loading.{Progress, newest, last-of, in-layer}
 use Rattle.windows.proofs.Lists.{both-granted}
-use Rattle.tape.proofs.Commands.{follows}
+use Rattle.tape.specs.FirstFault.{Plays}
 use Rattle.tape.proofs.SoFar.{with-newest}
-
--- the commands are in their turn and are obeyed, from the one to the other
-abbrev pub Plays : Progress → List Command → Progress → Type 0
-Plays l [] then = l ≡ then
-Plays l (c ∷ cs) then = (follows (l .turn) c ≡ true) × (is-end c ≡ false) × ((mid : Progress) × (obeyed l c ≡ Ok mid) × Plays mid cs then)
 
 pub plays-append : (cs ds : List Command) (l mid then : Progress) → Plays l cs mid → Plays mid ds then → Plays l (cs ++ ds) then
 plays-append [] ds l mid then p q = subst (λ l. Plays l ds then) (sym p) q

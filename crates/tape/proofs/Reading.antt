@@ -25,14 +25,15 @@ use Rattle.tape.specs.Commands.{bytes, partition-commands, commands, encode}
 use Rattle.tape.specs.Decode.{command, in-turn, admits, operands, after-frame}
 use Rattle.tape.specs.Loading.{Progress, faulty, nothing-read, obeyed, is-end, ended, after-obeyed, after-bytes, next, after-next, decode-from, decode}
 use Rattle.windows.proofs.Lists.{list-by-windows}
-use Rattle.tape.proofs.Commands.{follows, follows-read}
+use Rattle.tape.specs.FirstFault.{follows}
+use Rattle.tape.proofs.Commands.{follows-read}
 use Rattle.tape.proofs.Lengths.{so-far-short}
 use Rattle.tape.proofs.Lists.{joined-append}
 use Rattle.tape.proofs.SoFar.{framed, the-frame, so-far, Orderly, Accepted, accepted-so-far, obeyed-adds}
 
 -- A command that was read and obeyed was read, and was obeyed.
 
-unfoldable pub Parts : Progress → Command → List ℕ → Progress → Result (Command × List ℕ) ℕ → Type 0
+Parts : Progress → Command → List ℕ → Progress → Result (Command × List ℕ) ℕ → Type 0
 Parts l c rest then r = (r ≡ Ok (c, rest)) × (obeyed l c ≡ Ok then)
 
 obeyed-part : (c d : Command) (xs ys : List ℕ) (then : Progress) (q : Result Progress Breach) → after-obeyed c xs q ≡ Ok (d, ys, then) → (c ≡ d) × (xs ≡ ys) × (q ≡ Ok then)
@@ -42,14 +43,23 @@ obeyed-part c d xs ys then (Ok l) e =
     (ap (λ p. p .0) t, ap (λ p. p .1) t, ap (λ p. Ok (p .2)) t)
 obeyed-part c d xs ys then (Err f) e = let z : _≡_ {A = ℕ} 0 1 = cc in absurd (omega arith)
 
-pub parts : (l : Progress) (c : Command) (rest : List ℕ) (then : Progress) (r : Result (Command × List ℕ) ℕ) → after-bytes l r ≡ Ok (c, rest, then) → Parts l c rest then r
+parts : (l : Progress) (c : Command) (rest : List ℕ) (then : Progress) (r : Result (Command × List ℕ) ℕ) → after-bytes l r ≡ Ok (c, rest, then) → Parts l c rest then r
 unfolding Parts
 parts l c rest then (Ok p) e =
     let s = obeyed-part (p .0) c (p .1) rest then (obeyed l (p .0)) e in
     (ap (λ d. Ok (d, p .1)) (s .0) ∙ ap (λ ys. Ok (c, ys)) (s .1), ap (obeyed l) (sym (s .0)) ∙ s .2)
 parts l c rest then (Err k) e = let z : _≡_ {A = ℕ} 0 1 = cc in absurd (omega arith)
 
-next-none : (l : Progress) (xs : List ℕ) → length xs ≡ 0 → next l xs ≡ Err (71, [], Tape)
+module _ (l : Progress) (xs : List ℕ) (c : Command) (rest : List ℕ) (then : Progress) (r : next l xs ≡ Ok (c, rest, then)) where
+  pub next-read : command (l .turn) xs ≡ Ok (c, rest)
+  unfolding Parts
+  next-read = parts l c rest then (command (l .turn) xs) r .0
+
+  pub next-obeyed : obeyed l c ≡ Ok then
+  unfolding Parts
+  next-obeyed = parts l c rest then (command (l .turn) xs) r .1
+
+pub next-none : (l : Progress) (xs : List ℕ) → length xs ≡ 0 → next l xs ≡ Err (71, [], Tape)
 next-none l xs h = ap (after-bytes l) (cond-true (eqb (length xs) 0) (Err 71) (in-turn (admits (l .turn) (getD xs 0 0)) (operands xs)) (eq-eqb (length xs) 0 h))
 
 pub bytes-some : (c : Command) (more : List ℕ) → length more < length (bytes c ++ more)
@@ -86,7 +96,7 @@ standing-start tape = record { split = refl; orderly = refl; few = omega arith; 
 one-more-byte : (cs : List Command) (c : Command) (more : List ℕ) → joined bytes (cs ++ (c ∷ [])) ++ more ≡ joined bytes cs ++ (bytes c ++ more)
 one-more-byte cs c more = simp (joined-append, append-nil, append-assoc)
 
-the-end : (c : Command) → is-end c ≡ true → c ≡ End
+pub the-end : (c : Command) → is-end c ≡ true → c ≡ End
 the-end Partition e = absurd (false≢true e)
 the-end (Task c t d) e = absurd (false≢true e)
 the-end (Frame f) e = absurd (false≢true e)
@@ -125,20 +135,12 @@ module _ (tape : List ℕ) (l : Progress) (xs : List ℕ) (at : Standing tape l 
   standing-fault e r = sym (at .decides .2) ∙ decode-fault (length tape) l xs (at .decides .0) e (at .decides .1) r
 
   module _ (c : Command) (rest : List ℕ) (then : Progress) (e : xs ≡ bytes c ++ rest) (r : next l xs ≡ Ok (c, rest, then)) where
-    read : command (l .turn) xs ≡ Ok (c, rest)
-    unfolding Parts
-    read = parts l c rest then (command (l .turn) xs) r .0
-
-    carried-out : obeyed l c ≡ Ok then
-    unfolding Parts
-    carried-out = parts l c rest then (command (l .turn) xs) r .1
-
     in-its-turn : follows (l .turn) c ≡ true
-    in-its-turn = follows-read (l .turn) c rest xs e read
+    in-its-turn = follows-read (l .turn) c rest xs e (next-read l xs c rest then r)
 
     pub standing-next : is-end c ≡ false → Standing tape then rest
     standing-next no-end =
-        let a = obeyed-adds l (at .orderly) (at .few) (at .accepted) c then in-its-turn no-end carried-out in
+        let a = obeyed-adds l (at .orderly) (at .few) (at .accepted) c then in-its-turn no-end (next-obeyed l xs c rest then r) in
         let d = decode-next (length tape) l xs c rest then e r (at .decides .0) (at .decides .1) in
         record {
           split = at .split ∙ (ap (λ ys. joined bytes (so-far l) ++ ys) e ∙ (sym (one-more-byte (so-far l) c rest) ∙ ap (λ cs. joined bytes cs ++ rest) (sym (a .one-more))));
@@ -158,7 +160,7 @@ module _ (tape : List ℕ) (l : Progress) (xs : List ℕ) (at : Standing tape l 
     standing-again end none =
         let i = the-end c end in
         let f : after-frame (l .turn) ≡ true = ap (follows (l .turn)) (sym i) ∙ in-its-turn in
-        let o : Ok l ≡ Ok then = ap (obeyed l) (sym i) ∙ carried-out in
+        let o : Ok l ≡ Ok then = ap (obeyed l) (sym i) ∙ next-obeyed l xs c rest then r in
         let s : l ≡ then = cc in
         let t : tape ≡ encode (l .partitions) (l .frame) (l .windows) =
         at .split ∙ (ap (λ ys. joined bytes (so-far l) ++ ys) (e ∙ (ap (λ c. bytes c ++ rest) i ∙ ap (λ ys. 0x45 ∷ ys) (none-left rest none)))

@@ -25,10 +25,11 @@ use Rattle.tape.specs.Decode.{in-turn}
 use Rattle.tape.specs.Loading.{Progress, done, nothing-read, obeyed, is-end, ended, after-obeyed, after-bytes, next, after-next, decode-from, decode}
 use Rattle.tape.specs.RoundTrip.{Reads-back, Short}
 use Rattle.windows.proofs.Lists.{both-granted}
-use Rattle.tape.proofs.Commands.{follows, command-there}
+use Rattle.tape.specs.FirstFault.{follows, Plays}
+use Rattle.tape.proofs.Commands.{command-there}
 use Rattle.tape.proofs.Lengths.{encode-short}
 use Rattle.tape.proofs.Lists.{joined-append}
-use Rattle.tape.proofs.Plays.{Plays, plays-append, reads, granted-ok, after-partitions, still-before-all, partitions-play, windows-play}
+use Rattle.tape.proofs.Plays.{plays-append, reads, granted-ok, after-partitions, still-before-all, partitions-play, windows-play}
 use Rattle.tape.proofs.Reading.{bytes-some}
 use Rattle.tape.proofs.SoFar.{count-kept}
 

@@ -29,7 +29,7 @@ use Rattle.tape.specs.Commands.{task-command, partition-commands}
 use Rattle.tape.specs.Decode.{before-frame, in-partition, after-frame}
 use Rattle.tape.specs.Loading.{Progress, newest, last-of, in-layer, obeyed, is-end}
 use Rattle.windows.proofs.Lists.{both-granted, last-or, windows-one-more}
-use Rattle.tape.proofs.Commands.{follows}
+use Rattle.tape.specs.FirstFault.{follows}
 use Rattle.tape.proofs.Lists.{joined-append, split-last}
 
 -- the frame and the windows, once the frame is given

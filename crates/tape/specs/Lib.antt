@@ -1,5 +1,6 @@
 pub mod Commands
 pub mod Decode
 pub mod Faults
+pub mod FirstFault
 pub mod Loading
 pub mod RoundTrip

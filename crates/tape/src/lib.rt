@@ -2,7 +2,7 @@
 mod command;
 mod commanded;
 mod fault;
-mod theorem;
+mod theorems;
 
 pub use command::Command;
 pub use command::CommandDebug;
@@ -32,4 +32,5 @@ pub use fault::TapeFault;
 pub use fault::TapeFaultDebug;
 pub use fault::TapeFaultEq;
 pub use fault::TapeFaultPartialEq;
-pub use theorem::round_trip_stands;
+pub use theorems::first_fault_stands;
+pub use theorems::round_trip_stands;
