@@ -75,6 +75,20 @@ fn low(number: u16) -> u8
     (number % 256) as u8
 }
 
+fn task_bytes(cost: u16, period: u16, deadline: u16) -> [u8; 7]
+    ensures { λ r. ⌜ r ≡ bytes (Command.Task cost period deadline) ⌝ }
+{
+    let (c, t, d) = (cost, period, deadline);
+    [0x54, high(c), low(c), high(t), low(t), high(d), low(d)]
+}
+
+fn window_bytes(window: Window) -> [u8; 6]
+    ensures { λ r. ⌜ r ≡ bytes (Command.Window window) ⌝ }
+{
+    let (p, s, l) = (window.partition, window.start, window.length);
+    [0x57, p, high(s), low(s), high(l), low(l)]
+}
+
 // Writes a command at the front, and answers how many bytes it has.
 fn put(command: Command, out: &mut [u8]) -> usize
     requires { ⌜ length (bytes command) ≤ length (now out) ⌝ }
@@ -87,34 +101,9 @@ fn put(command: Command, out: &mut [u8]) -> usize
             cost,
             period,
             deadline,
-        } => {
-            copy(
-                &[
-                    0x54,
-                    high(cost),
-                    low(cost),
-                    high(period),
-                    low(period),
-                    high(deadline),
-                    low(deadline),
-                ],
-                out,
-            )
-        }
+        } => copy(&task_bytes(cost, period, deadline), out),
         Command::Frame(frame) => copy(&[0x46, high(frame), low(frame)], out),
-        Command::Window(window) => {
-            copy(
-                &[
-                    0x57,
-                    window.partition,
-                    high(window.start),
-                    low(window.start),
-                    high(window.length),
-                    low(window.length),
-                ],
-                out,
-            )
-        }
+        Command::Window(window) => copy(&window_bytes(window), out),
         Command::End => copy(&[0x45], out),
     }
 }
