@@ -111,4 +111,4 @@ module _ (order : Order) (n : ℕ) (ks : List Task) (f : ℕ) where
   no-worse q more i r s h v = (v .0, v .1, v .2, omega (arith, v .3, first-demand q more i (v .0), supply-wider q more s (v .0) h))
 
 pub starts : Starts-that-decide
-starts = record { later = later; earlier = earlier; gaps-suffice = gaps-suffice; one-suffices = one-suffices; more-is-no-worse = no-worse }
+starts = record { later-supply = later-supply; earlier-supply = earlier-supply; more-supply = supply-wider; later = later; earlier = earlier; gaps-suffice = gaps-suffice; one-suffices = one-suffices; more-is-no-worse = no-worse }

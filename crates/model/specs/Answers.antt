@@ -30,6 +30,7 @@ abbrev pub Gives : {A : Type 0} → Option A → A → Type 0 → Type 0
 Gives (Some a) b P = a ≡ b
 Gives None b P = P
 
+-- what such a call leaves of something
 abbrev pub leaves-if : {A B : Type 0} → Option (Answer A) → B → B → B
 leaves-if (Some a) changed was = leaves a changed was
 leaves-if None changed was = was

@@ -28,14 +28,16 @@ Module = List (List Task)
 abbrev pub tasks-of : Module → ℕ → List Task
 tasks-of m p = getD m p []
 
--- a partition has at most 16 tasks, each within the limits
+-- every task is within the limits
 abbrev pub all-within : List Task → Bool
 all-within [] = true
 all-within (k ∷ ks) = within-limits k && all-within ks
 
+-- a partition that keeps the limits: at most 16 tasks, each within the limits
 abbrev pub partition-within : List Task → Bool
 partition-within ks = leb (length ks) 16 && all-within ks
 
+-- every partition keeps the limits
 abbrev pub partitions-within : Module → Bool
 partitions-within [] = true
 partitions-within (ks ∷ m) = partition-within ks && partitions-within m

@@ -20,8 +20,14 @@ pub record Supply-facts : Type 0 where
   -- a longer stretch supplies no less, and at most one tick more for each tick
   pub grows : (p : Partition) (s a b : ℕ) → (supply p s a ≤ supply p s (a + b)) × (supply p s (a + b) ≤ supply p s a + b)
 
--- Which starts decide, for a demand that is to be met within r ticks.
+-- Which starts decide: on supply, and so for a demand that is to be met within r ticks.
 pub record Starts-that-decide : Type 0 where
+  -- from the tick after one that is not owned the supply is no less; from the tick after an owned one it is no more
+  pub later-supply : (p : Partition) (s t : ℕ) → p .owns s ≡ false → supply p s t ≤ supply p (s + 1) t
+  pub earlier-supply : (p : Partition) (s t : ℕ) → p .owns s ≡ true → supply p (s + 1) t ≤ supply p s t
+  -- more first places supply no less
+  pub more-supply : (order : Order) (p : ℕ) (ks : List Task) (f q more s t : ℕ) → q ≤ more →
+      supply (with-first order p ks f q) s t ≤ supply (with-first order p ks f more) s t
   -- what passes at a tick that is not owned passes at the next tick
   pub later : (p : Partition) (i r s : ℕ) → p .owns s ≡ false → Passes-in p i r s → Passes-in p i r (s + 1)
   -- what passes after an owned tick passes at that tick

@@ -66,7 +66,7 @@ share-owner p (n ∷ ns) x = cond (ltb x n) (Some p) (share-owner (p + 1) ns (x 
 abbrev pub share-timetable : ℕ → List ℕ → Timetable
 share-timetable f shares = opened (cycle-answer f shares) (record { frame = f; owner = share-owner 0 shares })
 
--- Shifts: place x of the shifted timetable is the place x + k below.
+-- Shifts: place x of the shifted timetable is the place (x + k) mod F below.
 abbrev pub shifted : Timetable → ℕ → Timetable
 shifted t k = record { frame = t .frame; owner = λ x. t .owner ((x + k) % t .frame) }
 

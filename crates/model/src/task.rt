@@ -2,7 +2,7 @@
 ghost use mathlib.Core.Path.{_≡_};
 ghost use Rattle.model.specs.Modules.{task-within};
 
-// Each job runs `cost` ticks, two releases are at least `period` ticks apart, and a job has `deadline` ticks from its
+// Each job runs at most `cost` ticks, two releases are at least `period` ticks apart, and a job has `deadline` ticks from its
 // release.
 #[derive(Clone, Copy, PartialEq, Eq, Debug)]
 pub struct Task {

@@ -35,7 +35,7 @@ pub fn faithful_holds() -> u8
     0
 }
 
-// The same under any dispatch rule that is never late.
+// Under any dispatch rule that is never late, modules are on time and executives faithful.
 pub fn any_rule_holds() -> u8
     ensures { λ _. ⌜ Any-rule ⌝ }
 {
