@@ -22,4 +22,3 @@ pub mod Punctuality
 pub mod Verdicts
 pub mod Planning
 pub mod Plans
-pub mod WorkedModules

@@ -24,8 +24,7 @@ leaves (refused n vs) changed was = was
 abbrev pub Granted : {A : Type 0} → Answer A → Type 0
 Granted {A} a = (x : A) × (a ≡ granted x)
 
--- A call that allocates may say that memory is wanting, in place of its answer: that is `None` below. It then leaves
--- everything as it was, and P says when it may come to that.
+-- A call that allocates may say that memory is wanting (`None`): all is left as it was, and P says when that may be.
 abbrev pub Gives : {A : Type 0} → Option A → A → Type 0 → Type 0
 Gives (Some a) b P = a ≡ b
 Gives None b P = P

@@ -13,4 +13,3 @@ pub mod FlightRecords
 pub mod Promises
 pub mod SupplyFacts
 pub mod Decisions
-pub mod WorkedModules

@@ -120,11 +120,9 @@ closed x = record { last = x .last; job = None }
 
 -- the partition after the tick
 unfoldable pub ticked : Engine → ℕ → List Task → ℕ → PartitionState → PartitionState
-ticked g p ks now h = record {
-  tasks = λ i. cond (late g p ks now (h .tasks) i) (closed (worked g p ks now (h .tasks) i)) (worked g p ks now (h .tasks) i);
-  faults = h .faults;
-  lost = h .lost;
-}
+ticked g p ks now h =
+    let done = worked g p ks now (h .tasks) in
+    record { tasks = λ i. cond (late g p ks now (h .tasks) i) (closed (done i)) (done i); faults = h .faults; lost = h .lost }
 
 -- how a job stands after it ran
 unfoldable pub progress : Option Job → Progress
@@ -191,8 +189,7 @@ obeyed now h clear = record { tasks = h .tasks; faults = []; lost = 0 }
 -- one fault more: after 8 entries it is lost, and the lost count stops at 65535
 unfoldable pub noted : PartitionState → Fault → PartitionState
 noted h f =
-    cond
-    (ltb (length (h .faults)) 8)
+    cond (ltb (length (h .faults)) 8)
     (record { tasks = h .tasks; faults = h .faults ++ (f ∷ []); lost = h .lost })
     (record { tasks = h .tasks; faults = h .faults; lost = min (h .lost + 1) 65535 })
 
@@ -217,23 +214,15 @@ asked now h a (Some n) = refused-of now h a n
 unfoldable pub reply : Engine → Module → MachineState → Call → Reply
 reply g m st tick = cond (ltb (st .now) last-tick) (tick-reply g m st (owner-at (g .timetable) (st .now))) (refused LastTick)
 reply g m st (call p a) =
-    cond
-    (has-partition m p)
+    cond (has-partition m p)
     (told (refusal (tasks-of m p) (st .now) (st .partitions p) a) (answered (tasks-of m p) (st .now) (st .partitions p) a))
     (refused NoSuchPartition)
 
 -- the state after a call
 unfoldable pub after : Engine → Module → MachineState → Call → MachineState
 after g m st tick =
-    cond
-    (ltb (st .now) last-tick)
-    (record { now = st .now + 1; partitions = λ p. ticked g p (tasks-of m p) (st .now) (st .partitions p) })
-    st
+    cond (ltb (st .now) last-tick)
+    (record { now = st .now + 1; partitions = λ p. ticked g p (tasks-of m p) (st .now) (st .partitions p) }) st
 after g m st (call p a) =
-    cond
-    (has-partition m p)
-    (record {
-      now = st .now;
-      partitions = put (st .partitions) p (asked (st .now) (st .partitions p) a (refusal (tasks-of m p) (st .now) (st .partitions p) a));
-    })
-    st
+    let asked-p = asked (st .now) (st .partitions p) a (refusal (tasks-of m p) (st .now) (st .partitions p) a) in
+    cond (has-partition m p) (record { now = st .now; partitions = put (st .partitions) p asked-p }) st

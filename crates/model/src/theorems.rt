@@ -5,7 +5,6 @@ ghost use Rattle.model.specs.Orders.{Orders-are-lawful};
 ghost use Rattle.model.specs.Promises.{Punctual, Exact, Isolated, Faithful, Any-rule};
 ghost use Rattle.model.specs.SupplyFacts.{Supply-facts, Starts-that-decide};
 ghost use Rattle.model.specs.Timetables.{Timetables-are-lawful, Covered-once};
-ghost use Rattle.model.specs.WorkedModules.{Worked-modules};
 
 // Every job of a cleared module is ended or has run its full cost by its deadline.
 pub fn punctual_holds() -> u8
@@ -101,13 +100,6 @@ pub fn windows_cover_once() -> u8
 // The listed order, the deadline order and tables of ranks are lawful.
 pub fn orders_are_lawful() -> u8
     ensures { λ _. ⌜ Orders-are-lawful ⌝ }
-{
-    0
-}
-
-// The worked modules come out as written, all of them.
-pub fn worked_modules_hold() -> u8
-    ensures { λ _. ⌜ Worked-modules ⌝ }
 {
     0
 }

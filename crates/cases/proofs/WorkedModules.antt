@@ -7,21 +7,21 @@ use Prim.Native.Nat.{_<_, _≤_, ℕ}
 use native.Mathlib.Omega.{arith}
 use lib.Dec.{leb, lit≤}
 use Rattle.std.proofs.shelf.Tests.{and-from, and-parts, both-ways, le-leb, leb-true, not-true, or-cases}
 use Rattle.model.specs.FlightRecords.{accepted, asks-end, asks-release, calls-end, calls-release, concerns, ends, flight, flown, how-many, is-tick, names-other, names-task, own-entries, releases, runs, struck, ticks, up-to}
 use Rattle.model.specs.InTime.{Passes, all-in-time, ceil, demand, in-time, partition, passes, size, sum-before, supply}
 use Rattle.model.specs.Machine.{after, answered, asked, chosen, closed, is-runner, late, noted, obeyed, one-on, overdue, progress, put, ran-of, ready, refusal, refused-of, released, reply, runner, since-of, tick-reply, ticked, told, turn-reply, unless, worked}
 use Rattle.model.specs.Modules.{task-of}
 use Rattle.model.specs.Orders.{listed, record-of}
 use Rattle.model.specs.Planning.{end-to-end, least-q, least-qs, plan, windows-for, with-q, written}
 use Rattle.model.specs.Ranges.{all-below, first-found, first-of, first-such, least-below, or-else, some-upto, sum-below}
 use Rattle.model.specs.Timetables.{opened, owned-by, owner-at, share-owner, window-owner}
 use Rattle.model.specs.Verdicts.{cleared, failing-start, finding, first-late, foreign-place, late-at, late-task, owner-known, verdict-by, verdict-on}
-use Rattle.model.specs.WorkedModules.{Worked-cases, Worked-modules, exchanged-A, late-calls, partition-A, timetable-A, window}
+use Rattle.cases.specs.WorkedModules.{Worked-cases, Worked-modules, exchanged-A, late-calls, partition-A, timetable-A, window}
 use Rattle.model.specs.WindowLists.{overlap}
 use Rattle.model.proofs.Decisions.{decides-passes}
 use Rattle.model.proofs.Orders.{orders-lawful}
 use Rattle.model.proofs.Ranges.{all-from}
 use Rattle.model.proofs.Timetables.{timetables-lawful}
 
 abbrev fits : ℕ → Bool
 fits s = passes (partition-A 18) 1 s
