@@ -1,4 +1,6 @@
 // Examples worked out by hand, as tests.
+#![tactic(auto)]
+
 #[cfg(test)]
 mod drafts;
 #[cfg(test)]

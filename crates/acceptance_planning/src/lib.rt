@@ -1,4 +1,6 @@
 // Verdicts and shortest windows worked out by hand, as tests.
+#![tactic(auto)]
+
 #[cfg(test)]
 mod modules;
 #[cfg(test)]

@@ -1,4 +1,6 @@
 // Running modules worked out by hand, as tests.
+#![tactic(auto)]
+
 #[cfg(test)]
 mod clocks;
 #[cfg(test)]

@@ -1,4 +1,6 @@
 // Timetables and local orders worked out by hand, as tests.
+#![tactic(auto)]
+
 #[cfg(test)]
 mod cycles;
 #[cfg(test)]

@@ -4,7 +4,7 @@ use mathlib.Core.Path.{fun_ext}
 use Rattle.std.specs.List.{range_with_len}
 use Rattle.std.proofs.lemmas.List.FromFn.{get_or-map-range_with_len}
 use Rattle.std.proofs.lemmas.List.{get_or_past}
-use Rattle.std.proofs.lemmas.Bool.{cond_false, cond_true}
+use Rattle.std.proofs.lemmas.Bool.{cond-false, cond-true}
 use Rattle.model.specs.declared.task.Task.{Task}
 use Rattle.model.specs.declared.verdict.LateTask.{LateTask}
 use Rattle.model.specs.InTime.{Partition, partition, partition_of, size}
@@ -30,10 +30,10 @@ module _ (goes : ℕ → ℕ → Bool) (test : ℕ → Bool) where
   such_next n = rw add-one refl
 
   pub such_skip : (n : ℕ) → test n ≡ false → first_such goes test (n + 1) ≡ first_such goes test n
-  such_skip n e = such_next n ∙ cond_false (test n) _ _ e
+  such_skip n e = such_next n ∙ cond-false (test n) _ _ e
 
   pub such_found : (n : ℕ) → test n ≡ true → first_such goes test (n + 1) ≡ Some (first_of goes n (first_such goes test n))
-  such_found n e = such_next n ∙ cond_true (test n) _ _ e
+  such_found n e = such_next n ∙ cond-true (test n) _ _ e
 
 -- A partition by its tasks and places.
 module _ (t : Timetable) (order : Order) (m : Module) (n : ℕ) where

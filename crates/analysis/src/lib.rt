@@ -1,5 +1,7 @@
 // Whether tasks are in time, on any timetable and under any local order, and the verdict on a module. Supply is carried tick
 // by tick, against demand; nothing allocates.
+#![tactic(auto)]
+
 mod demand;
 mod finding;
 mod findings;

@@ -13,7 +13,8 @@ use Rattle.model.specs.Verdicts.{Lawful, verdict_on, verdict_answer}
 use Rattle.model.specs.Planning.{least_q, plan, written}
 use Rattle.model.specs.Refusals.{number}
 use Rattle.model.specs.Machine.{Engine, MachineState, PartitionState, by_order, new, reply, after, late, noted, last_tick}
-use Rattle.model.specs.FlightRecords.{Entry, flight, flown, LateRecord, ticks, releases, ends, runs, how_many, up_to, struck, own_entries}
+use Rattle.model.specs.declared.entry.Entry.{Entry}
+use Rattle.model.specs.FlightRecords.{flight, flown, LateRecord, ticks, releases, ends, runs, how_many, up_to, struck, own_entries}
 use Rattle.model.specs.Promises.{plain}
 use Rattle.model.specs.declared.refusal.Refusal.TheVariants.{NotCleared, NoSuchPartition, NoSuchTask, TooSoon, NoOpenJob, NoSuchFault, LastTick}
 use Rattle.model.specs.declared.call.Request.TheVariants.{Release as release, End as end, Fault as fault, Clear as clear}

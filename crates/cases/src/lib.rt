@@ -1,4 +1,6 @@
 // The worked modules of the rules, as one theorem on the definitions.
+#![tactic(auto)]
+
 ghost use Rattle.cases.specs.WorkedModules.{WorkedModules};
 
 // The worked modules come out as written, all of them.

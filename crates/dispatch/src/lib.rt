@@ -1,5 +1,7 @@
 // Dispatch: which of two open jobs of a partition goes first. What stands above uses a dispatch rule's meaning alone, so
 // another engine needs no other executive.
+#![tactic(auto)]
+
 mod by_order;
 
 ghost use Rattle.std.specs.Prelude.{◌≡◌, Bool, ℕ};

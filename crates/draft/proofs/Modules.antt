@@ -1,7 +1,7 @@
 -- The module that a draft holds: how it grows, and that it keeps the limits.
 use Rattle.std.proofs.Common.{◌≡◌, ℕ, ◌<◌, ◌≤◌, Bool, true, false, cond, ltb, leb, List, [], ◌∷◌, ◌++◌, map, length, get_or, set, Some, None, vec_items, vec_len, Option, sym, refl, ap, ◌∙◌, subst, inl, inr, arith}
 use Rattle.std.proofs.lemmas.List.{length-map, map-set, get_or-map, get_or_default, set-get_or}
-use Rattle.std.proofs.lemmas.Bool.{cases_Bool, cond_true, cond_false, and_parts, and_from, lt-ltb, le-ltb, le-leb}
+use Rattle.std.proofs.lemmas.Bool.{cases_Bool, cond-true, cond-false, and_parts, and_from, lt-ltb, le-ltb, le-leb}
 use Rattle.model.specs.declared.task.Task.{Task}
 use Rattle.model.specs.Answers.{Answer, granted, refused, Gives, Granted, leaves_if}
 use Rattle.model.specs.Modules.{task, task_within, tasks_of, within_limits, all_within, partition_within, partitions_within, module_within}
@@ -24,8 +24,8 @@ all_within_pushed false ks k a w = a
 pub within_limits_of : (c t d : ℕ) (k : Task) → Some k ≡ task_within c t d → within_limits k ≡ true
 within_limits_of c t d k e =
     elim (cases_Bool (within_limits (task c t d))) [
-      | inl w ↦ let same : k ≡ task c t d = cc (e, cond_true (within_limits (task c t d)) (Some (task c t d)) None w) in ap within_limits same ∙ w
-      | inr w ↦ let z : ◌≡◌ {A = ℕ} 0 1 = cc (e, cond_false (within_limits (task c t d)) (Some (task c t d)) None w) in absurd (omega arith)
+      | inl w ↦ let same : k ≡ task c t d = cc (e, cond-true (within_limits (task c t d)) (Some (task c t d)) None w) in ap within_limits same ∙ w
+      | inr w ↦ let z : ◌≡◌ {A = ℕ} 0 1 = cc (e, cond-false (within_limits (task c t d)) (Some (task c t d)) None w) in absurd (omega arith)
     ]
 
 pub module_length : (d : Draft) → length (module_of d) ≡ vec_len d.partitions

@@ -1,4 +1,6 @@
 // Drafts of a module: partitions and their tasks, within the limits.
+#![tactic(auto)]
+
 mod draft;
 mod refusal;
 

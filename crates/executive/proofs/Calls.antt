@@ -1,7 +1,7 @@
 -- From what the tables answer and keep to the contracts of the calls.
 use Rattle.std.proofs.Common.{◌≡◌, ℕ, ◌+◌, ◌<◌, ◌≤◌, true, false, List, map, length, get_or, set, Some, None, vec_items, sym, refl, ap, ◌∙◌, inl, inr}
 use Rattle.std.proofs.lemmas.List.{set-get_or}
-use Rattle.std.proofs.lemmas.Bool.{cases_lt, cond_false, cond_true, le-ltb, lt-ltb}
+use Rattle.std.proofs.lemmas.Bool.{cases_lt, cond-false, cond-true, le-ltb, lt-ltb}
 use Rattle.model.specs.declared.call.Call.{Call}
 use Rattle.model.specs.declared.call.Call.TheVariants.{Of as call}
 use Rattle.model.specs.declared.call.Request.{Request}
@@ -30,18 +30,18 @@ pub answered : {T D : Type 0} (means : T → Timetable) (rule : D → DispatchRu
     clears (told_verdict old.sealed) ≡ true → r ≡ reply (engine_of means rule old.sealed) (sealed_module old.sealed) (state_in old) c →
     state_in new ≡ after (engine_of means rule old.sealed) (sealed_module old.sealed) (state_in old) c → new.sealed ≡ old.sealed →
     Answered means rule old new c r
-answered means rule old new c r v a s e = record { answer = a ∙ sym (cond_true _ _ _ v); state = s ∙ sym (cond_true _ _ _ v); «sealed» = e }
+answered means rule old new c r v a s e = record { answer = a ∙ sym (cond-true _ _ _ v); state = s ∙ sym (cond-true _ _ _ v); «sealed» = e }
 
 -- the clock goes on, unless it is at the last tick
 pub clock_on : (u v : ℕ) → Some v ≡ next_tick u → (u < last_tick) × (v ≡ u + 1)
 clock_on u v e = elim (cases_lt u last_tick) [
-  | inl l ↦ (l, (let z : Some v ≡ Some (u + 1) = e ∙ cond_true _ _ _ (lt-ltb u last_tick l) in cc))
-  | inr l ↦ absurd (none_some (sym (e ∙ cond_false _ _ _ (le-ltb u last_tick l))))
+  | inl l ↦ (l, (let z : Some v ≡ Some (u + 1) = e ∙ cond-true _ _ _ (lt-ltb u last_tick l) in cc))
+  | inr l ↦ absurd (none_some (sym (e ∙ cond-false _ _ _ (le-ltb u last_tick l))))
 ]
 
 pub clock_stops : (u : ℕ) → None ≡ next_tick u → last_tick ≤ u
 clock_stops u e = elim (cases_lt u last_tick) [
-  | inl l ↦ absurd (none_some (e ∙ cond_true _ _ _ (lt-ltb u last_tick l)))
+  | inl l ↦ absurd (none_some (e ∙ cond-true _ _ _ (lt-ltb u last_tick l)))
   | inr l ↦ l
 ]
 

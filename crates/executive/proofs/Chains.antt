@@ -1,6 +1,6 @@
 -- A chain of calls of a cleared module is a flight record.
 use Rattle.std.proofs.Common.{◌≡◌, true, List, [], ◌∷◌, sym, refl, ap, ◌∙◌, ap₂}
-use Rattle.std.proofs.lemmas.Bool.{cond_true}
+use Rattle.std.proofs.lemmas.Bool.{cond-true}
 use Rattle.model.specs.declared.entry.Entry.{Entry}
 use Rattle.model.specs.Machine.{DispatchRule, MachineState, after, reply}
 use Rattle.model.specs.FlightRecords.{flight}
@@ -22,8 +22,8 @@ module _ {T D : Type 0} (means : T → Timetable) (rule : D → DispatchRule) wh
   chain_flown x y (e ∷ r) c v =
       let z = c.0 in
       let a = c.1 in
-      let told : e.answer ≡ reply (engine_of means rule x.sealed) (sealed_module x.sealed) (state_in x) e.call = a.answer ∙ cond_true _ _ _ v in
-      let next : state_in z ≡ after (engine_of means rule x.sealed) (sealed_module x.sealed) (state_in x) e.call = a.state ∙ cond_true _ _ _ v in
+      let told : e.answer ≡ reply (engine_of means rule x.sealed) (sealed_module x.sealed) (state_in x) e.call = a.answer ∙ cond-true _ _ _ v in
+      let next : state_in z ≡ after (engine_of means rule x.sealed) (sealed_module x.sealed) (state_in x) e.call = a.state ∙ cond-true _ _ _ v in
       let rest : r ≡ from x.sealed (after (engine_of means rule x.sealed) (sealed_module x.sealed) (state_in x) e.call) r =
       chain_flown z y r c.2 (ap (λ s. clears (told_verdict s)) a.«sealed» ∙ v) ∙ ap₂ (λ s st. from s st r) a.«sealed» next in
       ap₂ (λ (b : Entry) (q : List Entry). b ∷ q) (ap (λ w. record { call = e.call; answer = w }) told) rest

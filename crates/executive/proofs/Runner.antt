@@ -1,6 +1,6 @@
 -- A tick writes the state of no task but the one that ran.
 use Rattle.std.proofs.Common.{◌≡◌, ℕ, ◌<◌, ◌≤◌, Bool, true, false, cond, ◌&&◌, eqb, Some, None, Option, sym, refl, ap, ◌∙◌, subst₂, inl, inr}
-use Rattle.std.proofs.lemmas.Bool.{and_cases, both_ways, cases_Bool, cases_eq, cases_lt, cond_false, cond_true, eq-eqb, eqb-false, le-ltb, lt-ltb, ne_eqb}
+use Rattle.std.proofs.lemmas.Bool.{and_cases, both_ways, cases_Bool, cases_eq, cases_lt, cond-false, cond-true, eq-eqb, eqb-false, le-ltb, lt-ltb, ne_eqb}
 use Rattle.model.specs.declared.call.Call.TheVariants.{Tick as tick}
 use Rattle.model.specs.declared.reply.Reply.{Reply}
 use Rattle.model.specs.Machine.{DispatchRule, Engine, MachineState, after, chosen, is_runner, last_tick, late, reply, runner, ticked, tick_reply, turn_reply, worked}
@@ -46,28 +46,28 @@ module _ (t : Timetable) (rule : DispatchRule) (m : Module) (st : MachineState) 
   by_owner p i (Some q) e = elim (cases_eq p q) [
     | inl z ↦
         let mine : named p i (tick_reply g m st (Some p)) ≡ false = ap (λ x. named p i (tick_reply g m st (Some x))) z ∙ e in
-        ap (λ k. is_runner k i) (cond_true _ _ _ (eq-eqb p q z)) ∙ own_turn p i mine
-    | inr n ↦ ap (λ k. is_runner k i) (cond_false _ _ _ (ne_eqb p q n))
+        ap (λ k. is_runner k i) (cond-true _ _ _ (eq-eqb p q z)) ∙ own_turn p i mine
+    | inr n ↦ ap (λ k. is_runner k i) (cond-false _ _ _ (ne_eqb p q n))
   ]
 
   module _ (l : st.now < last_tick) where
     left_alone : (p i : ℕ) → named p i (reply g m st tick) ≡ false → ((after g m st tick).partitions p).tasks i ≡ (st.partitions p).tasks i
     unfolding after reply ticked late worked runner
     left_alone p i e =
-        let told : named p i (tick_reply g m st (owner_at t st.now)) ≡ false = ap (named p i) (sym (cond_true _ _ _ (lt-ltb st.now last_tick l))) ∙ e in
-        ap (λ (x : MachineState). (x.partitions p).tasks i) (cond_true _ _ _ (lt-ltb st.now last_tick l)) ∙ cond_false _ _ _ (by_owner p i (owner_at t st.now) told)
+        let told : named p i (tick_reply g m st (owner_at t st.now)) ≡ false = ap (named p i) (sym (cond-true _ _ _ (lt-ltb st.now last_tick l))) ∙ e in
+        ap (λ (x : MachineState). (x.partitions p).tasks i) (cond-true _ _ _ (lt-ltb st.now last_tick l)) ∙ cond-false _ _ _ (by_owner p i (owner_at t st.now) told)
 
     same_faults : (p : ℕ) → ((after g m st tick).partitions p).faults ≡ (st.partitions p).faults
     unfolding after ticked
-    same_faults p = ap (λ (x : MachineState). (x.partitions p).faults) (cond_true _ _ _ (lt-ltb st.now last_tick l))
+    same_faults p = ap (λ (x : MachineState). (x.partitions p).faults) (cond-true _ _ _ (lt-ltb st.now last_tick l))
 
     same_lost : (p : ℕ) → ((after g m st tick).partitions p).lost ≡ (st.partitions p).lost
     unfolding after ticked
-    same_lost p = ap (λ (x : MachineState). (x.partitions p).lost) (cond_true _ _ _ (lt-ltb st.now last_tick l))
+    same_lost p = ap (λ (x : MachineState). (x.partitions p).lost) (cond-true _ _ _ (lt-ltb st.now last_tick l))
 
   stopped : last_tick ≤ st.now → after g m st tick ≡ st
   unfolding after
-  stopped l = cond_false _ _ _ (le-ltb st.now last_tick l)
+  stopped l = cond-false _ _ _ (le-ltb st.now last_tick l)
 
   tick_writes : OnlyRunnerWritten st (after g m st tick) (reply g m st tick)
   tick_writes = elim (cases_lt st.now last_tick) [
@@ -78,8 +78,8 @@ module _ (t : Timetable) (rule : DispatchRule) (m : Module) (st : MachineState) 
 pub only_runner : {T D : Type 0} (means : T → Timetable) (rule : D → DispatchRule) (old new : Running T D) (r : Reply) → Answered means rule old new tick r → OnlyRunnerWritten (state_in old) (state_in new) r
 only_runner means rule old new r a = elim (cases_Bool (clears (told_verdict old.sealed))) [
   | inl v ↦
-      let next = a.state ∙ cond_true _ _ _ v in
-      let told = a.answer ∙ cond_true _ _ _ v in
+      let next = a.state ∙ cond-true _ _ _ v in
+      let told = a.answer ∙ cond-true _ _ _ v in
       subst₂ (OnlyRunnerWritten (state_in old)) (sym next) (sym told) (tick_writes (means old.sealed.table) (rule old.sealed.dispatch) _ (state_in old))
-  | inr v ↦ nothing_written (a.state ∙ cond_false _ _ _ v)
+  | inr v ↦ nothing_written (a.state ∙ cond-false _ _ _ v)
 ]

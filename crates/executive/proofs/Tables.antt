@@ -2,7 +2,7 @@
 use Rattle.std.proofs.Common.{◌≡◌, ℕ, ◌+◌, ◌<◌, ◌≤◌, Bool, false, cond, ◌&&◌, eqb, ltb, List, [], map, length, get_or, set, Some, None, Option, sym, refl, ap, ◌∙◌, inl, inr, arith}
 use mathlib.Core.Path.{fun_ext}
 use Rattle.std.proofs.lemmas.List.{get_or-map, get_or_past, get_or-set_other, get_or-set_same, length-map, length-set, map-set, set-get_or}
-use Rattle.std.proofs.lemmas.Bool.{cases_Bool, cases_eq, cond_false, cond_true, eq-eqb, le-ltb, lt-ltb, ne_eqb}
+use Rattle.std.proofs.lemmas.Bool.{cases_Bool, cases_eq, cond-false, cond-true, eq-eqb, le-ltb, lt-ltb, ne_eqb}
 use Rattle.model.specs.declared.call.Call.TheVariants.{Of as call, Tick as tick}
 use Rattle.model.specs.declared.call.Request.{Request}
 use Rattle.model.specs.declared.refusal.Refusal.TheVariants.{LastTick, NoSuchPartition}
@@ -37,8 +37,8 @@ module _ (ts : List JobTable) (m : Module) (level : map tasks_in ts ≡ m) where
     pub stored : (t : JobTable) → partitions_of (set ts p t) ≡ put (partitions_of ts) p (state_of t)
     unfolding put
     stored t = fun_ext (λ q. ap (λ xs. get_or xs q untouched) (map-set state_of ts p t) ∙ elim (cases_eq q p) [
-      | inl e ↦ rw e (get_or-set_same (map state_of ts) p (state_of t) untouched (simp length-map l) ∙ sym (cond_true _ _ _ (eq-eqb p p refl)))
-      | inr n ↦ get_or-set_other (map state_of ts) p q (state_of t) untouched n ∙ sym (cond_false _ _ _ (ne_eqb q p n))
+      | inl e ↦ rw e (get_or-set_same (map state_of ts) p (state_of t) untouched (simp length-map l) ∙ sym (cond-true _ _ _ (eq-eqb p p refl)))
+      | inr n ↦ get_or-set_other (map state_of ts) p q (state_of t) untouched n ∙ sym (cond-false _ _ _ (ne_eqb q p n))
     ])
 
     pub kept : (t : JobTable) → tasks_in t ≡ tasks_in d → map tasks_in (set ts p t) ≡ m
@@ -53,7 +53,7 @@ module _ (ts : List JobTable) (m : Module) (level : map tasks_in ts ≡ m) where
       same_answer =
           ap (λ ks. told (refusal ks now (state_of d) a) (answered ks now (state_of d) a)) (sym tasks_at)
           ∙ ap (λ h. told (refusal (tasks_of m p) now h a) (answered (tasks_of m p) now h a)) (sym state_at)
-          ∙ sym (cond_true _ _ _ (lt-ltb p (length m) (omega (arith, as_many))))
+          ∙ sym (cond-true _ _ _ (lt-ltb p (length m) (omega (arith, as_many))))
 
       pub request_answer : (r : Reply) → r ≡ answer_to d now a → r ≡ reply g m (state now ts) (call p a)
       request_answer r e = e ∙ same_answer
@@ -65,17 +65,17 @@ module _ (ts : List JobTable) (m : Module) (level : map tasks_in ts ≡ m) where
           let left : state_of t ≡ asks (tasks_of m p) (partitions_of ts p) =
           e ∙ ap (λ ks. asks ks (state_of d)) (sym tasks_at) ∙ ap (asks (tasks_of m p)) (sym state_at) in
           ap (λ xs. record { now = now; partitions = xs }) (stored t ∙ ap (put (partitions_of ts) p) left)
-          ∙ sym (cond_true _ _ _ (lt-ltb p (length m) (omega (arith, as_many))))
+          ∙ sym (cond-true _ _ _ (lt-ltb p (length m) (omega (arith, as_many))))
 
   -- a request to a partition that the module lacks
   module _ (g : Engine) (now p : ℕ) (a : Request) (l : length ts ≤ p) where
     pub lacks_answer : Refused NoSuchPartition ≡ reply g m (state now ts) (call p a)
     unfolding reply
-    lacks_answer = sym (cond_false _ _ _ (le-ltb p (length m) (omega (arith, as_many))))
+    lacks_answer = sym (cond-false _ _ _ (le-ltb p (length m) (omega (arith, as_many))))
 
     pub lacks_state : state now ts ≡ after g m (state now ts) (call p a)
     unfolding after
-    lacks_state = sym (cond_false _ _ _ (le-ltb p (length m) (omega (arith, as_many))))
+    lacks_state = sym (cond-false _ _ _ (le-ltb p (length m) (omega (arith, as_many))))
 
 -- A tick of an engine that does not look for late jobs.
 module _ (t : Timetable) (rule : DispatchRule) where
@@ -89,12 +89,12 @@ module _ (t : Timetable) (rule : DispatchRule) where
   -- a partition that does not own the tick is left as it was
   others_rest : (p : ℕ) (ks : List Task) (now : ℕ) (h : PartitionState) → owned_by p (owner_at t now) ≡ false → ticked g p ks now h ≡ h
   unfolding runner
-  others_rest p ks now h e = rests p ks now h (cond_false _ _ _ e)
+  others_rest p ks now h e = rests p ks now h (cond-false _ _ _ e)
 
   -- so is one that has no tasks
   none_rest : (p now : ℕ) (h : PartitionState) → ticked g p [] now h ≡ h
   unfolding runner chosen first_such
-  none_rest p now h = rests p [] now h (elim (cases_Bool (owned_by p (owner_at t now))) [ inl e ↦ cond_true _ _ _ e | inr e ↦ cond_false _ _ _ e ])
+  none_rest p now h = rests p [] now h (elim (cases_Bool (owned_by p (owner_at t now))) [ inl e ↦ cond-true _ _ _ e | inr e ↦ cond-false _ _ _ e ])
 
   module _ (ts : List JobTable) (m : Module) (level : map tasks_in ts ≡ m) (now : ℕ) (l : now < last_tick) where
     -- the partitions after the tick
@@ -103,12 +103,12 @@ module _ (t : Timetable) (rule : DispatchRule) where
 
     next_state : (xs : ℕ → PartitionState) → ((p : ℕ) → xs p ≡ ticked_all p) → ◌≡◌ {A = MachineState} (record { now = now + 1; partitions = xs }) (after g m (state now ts) tick)
     unfolding after
-    next_state xs e = ap (λ ys. record { now = now + 1; partitions = ys }) (fun_ext e) ∙ sym (cond_true _ _ _ (lt-ltb now last_tick l))
+    next_state xs e = ap (λ ys. record { now = now + 1; partitions = ys }) (fun_ext e) ∙ sym (cond-true _ _ _ (lt-ltb now last_tick l))
 
     -- the answer by the owner
     by_owner : (o : Option ℕ) → owner_at t now ≡ o → tick_reply g m (state now ts) o ≡ reply g m (state now ts) tick
     unfolding reply
-    by_owner o e = ap (tick_reply g m (state now ts)) (sym e) ∙ sym (cond_true _ _ _ (lt-ltb now last_tick l))
+    by_owner o e = ap (tick_reply g m (state now ts)) (sym e) ∙ sym (cond-true _ _ _ (lt-ltb now last_tick l))
 
     module _ (own : owner_at t now ≡ None) where
       pub spare_answer : Spare ≡ reply g m (state now ts) tick
@@ -160,8 +160,8 @@ module _ (t : Timetable) (rule : DispatchRule) where
   module _ (m : Module) (st : MachineState) (l : last_tick ≤ st.now) where
     pub last_answer : Refused LastTick ≡ reply g m st tick
     unfolding reply
-    last_answer = sym (cond_false _ _ _ (le-ltb st.now last_tick l))
+    last_answer = sym (cond-false _ _ _ (le-ltb st.now last_tick l))
 
     pub last_state : st ≡ after g m st tick
     unfolding after
-    last_state = sym (cond_false _ _ _ (le-ltb st.now last_tick l))
+    last_state = sym (cond-false _ _ _ (le-ltb st.now last_tick l))

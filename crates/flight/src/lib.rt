@@ -1,4 +1,6 @@
 // Flights: a module is sealed and started, calls are made, and each is recorded with its answer.
+#![tactic(auto)]
+
 mod asking;
 mod flying;
 mod parts;

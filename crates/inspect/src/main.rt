@@ -1,4 +1,6 @@
 // inspect: reads a tape on standard input and prints it, a line a command, or one line for its fault.
+#![tactic(auto)]
+
 use listing::listing;
 use std::io;
 use std::io::Read;

@@ -2,7 +2,7 @@
 use Rattle.std.proofs.Common.{◌≡◌, ℕ, zero, suc, ◌+◌, ◌<◌, ◌≤◌, min, Bool, true, false, ltb, leb, List, [], ◌∷◌, ◌++◌, length, get_or, set, replicate, is_some, Some, None, Ok, Err, Option, sym, refl, ap, ◌∙◌, ap₂, inl, inr, arith}
 use mathlib.Core.Path.{fun_ext}
 use Rattle.std.proofs.lemmas.List.{get_or-set_same, get_or-set_other}
-use Rattle.std.proofs.lemmas.Bool.{cond_true, cond_false, lt-ltb, le-ltb, cases_eq, cases_Bool, true≢false}
+use Rattle.std.proofs.lemmas.Bool.{cond-true, cond-false, lt-ltb, le-ltb, cases_eq, cases_Bool, true≢false}
 use Rattle.model.specs.declared.call.Request.{Request}
 use Rattle.model.specs.declared.call.Request.TheVariants as request
 use Rattle.model.specs.declared.job.Job.{Job}
@@ -55,13 +55,13 @@ module _ (h : PartitionState) (f : Fault) where
   unfolding noted
   noted_entry fs l e =
       ap {B = PartitionState} (λ x. record { tasks = h.tasks; faults = x; lost = h.lost }) e
-      ∙ sym (cond_true (ltb (length h.faults) 8) _ _ (lt-ltb (length h.faults) 8 l))
+      ∙ sym (cond-true (ltb (length h.faults) 8) _ _ (lt-ltb (length h.faults) 8 l))
 
   pub noted_lost : (n : ℕ) → 8 ≤ length h.faults → n ≡ min (h.lost + 1) 65535 → record { tasks = h.tasks; faults = h.faults; lost = n } ≡ noted h f
   unfolding noted
   noted_lost n l e =
       ap {B = PartitionState} (λ x. record { tasks = h.tasks; faults = h.faults; lost = x }) e
-      ∙ sym (cond_false (ltb (length h.faults) 8) _ _ (le-ltb (length h.faults) 8 l))
+      ∙ sym (cond-false (ltb (length h.faults) 8) _ _ (le-ltb (length h.faults) 8 l))
 
 module _ (ks : List Task) (now : ℕ) (h : PartitionState) where
   -- the machine answers r to the request, and leaves that state
@@ -93,11 +93,11 @@ module _ (ks : List Task) (now : ℕ) (h : PartitionState) where
 
     pub release_past : length ks ≤ i → refusal ks now h (request.Release i) ≡ Some NoSuchTask
     unfolding refusal unless
-    release_past l = cond_false _ _ _ (le-ltb i (length ks) l)
+    release_past l = cond-false _ _ _ (le-ltb i (length ks) l)
 
     pub end_past : length ks ≤ i → refusal ks now h (request.End i) ≡ Some NoSuchTask
     unfolding refusal unless
-    end_past l = cond_false _ _ _ (le-ltb i (length ks) l)
+    end_past l = cond-false _ _ _ (le-ltb i (length ks) l)
 
     -- a task that is there: what the event comes to decides
     module _ (l : i < length ks) where
@@ -114,10 +114,10 @@ module _ (ks : List Task) (now : ℕ) (h : PartitionState) where
         release_free k q = elim (cases_Bool free) [
           | inl f ↦
               let w = granted (request.Release i) (release_by true f) in
-              let x : changed (h.tasks i) e ≡ released now = rw is (cond_true _ _ _ f) in
+              let x : changed (h.tasks i) e ≡ released now = rw is (cond-true _ _ _ f) in
               (w.0, ap (with_state h i) x ∙ w.1)
           | inr f ↦
-              let o : outcome (h.tasks i) e ≡ Err TooSoon = rw is (cond_false _ _ _ f) in
+              let o : outcome (h.tasks i) e ≡ Err TooSoon = rw is (cond-false _ _ _ f) in
               let z : ◌≡◌ {A = ℕ} 0 1 = cc in absurd (omega arith)
         ]
 
@@ -125,12 +125,12 @@ module _ (ks : List Task) (now : ℕ) (h : PartitionState) where
         unfolding unless
         release_early n q = elim (cases_Bool free) [
           | inl f ↦
-              let o : outcome (h.tasks i) e ≡ Ok 0 = rw is (cond_true _ _ _ f) in
+              let o : outcome (h.tasks i) e ≡ Ok 0 = rw is (cond-true _ _ _ f) in
               let z : ◌≡◌ {A = ℕ} 0 1 = cc in absurd (omega arith)
           | inr f ↦
-              let o : outcome (h.tasks i) e ≡ Err TooSoon = rw is (cond_false _ _ _ f) in
+              let o : outcome (h.tasks i) e ≡ Err TooSoon = rw is (cond-false _ _ _ f) in
               let z : n ≡ TooSoon = cc in
-              (release_by false f ∙ ap Some (sym z), with_same h i _ (rw is (cond_false _ _ _ f)))
+              (release_by false f ∙ ap Some (sym z), with_same h i _ (rw is (cond-false _ _ _ f)))
         ]
 
       end_by : (b : Bool) → is_some (h.tasks i).job ≡ b → refusal ks now h (request.End i) ≡ unless b NoOpenJob None
@@ -142,11 +142,11 @@ module _ (ks : List Task) (now : ℕ) (h : PartitionState) where
       end_open k q = elim (cases_Bool (is_some (h.tasks i).job)) [
         | inl f ↦
             let w = granted (request.End i) (end_by true f) in
-            let o : outcome (h.tasks i) event.End ≡ Ok (ran_of (h.tasks i).job) = cond_true _ _ _ f in
+            let o : outcome (h.tasks i) event.End ≡ Ok (ran_of (h.tasks i).job) = cond-true _ _ _ f in
             let z : k ≡ ran_of (h.tasks i).job = cc in
             (ap Count z ∙ w.0, w.1)
         | inr f ↦
-            let o : outcome (h.tasks i) event.End ≡ Err NoOpenJob = cond_false _ _ _ f in
+            let o : outcome (h.tasks i) event.End ≡ Err NoOpenJob = cond-false _ _ _ f in
             let z : ◌≡◌ {A = ℕ} 0 1 = cc in absurd (omega arith)
       ]
 
@@ -154,10 +154,10 @@ module _ (ks : List Task) (now : ℕ) (h : PartitionState) where
       unfolding unless closed
       end_none n q = elim (cases_Bool (is_some (h.tasks i).job)) [
         | inl f ↦
-            let o : outcome (h.tasks i) event.End ≡ Ok (ran_of (h.tasks i).job) = cond_true _ _ _ f in
+            let o : outcome (h.tasks i) event.End ≡ Ok (ran_of (h.tasks i).job) = cond-true _ _ _ f in
             let z : ◌≡◌ {A = ℕ} 0 1 = cc in absurd (omega arith)
         | inr f ↦
-            let o : outcome (h.tasks i) event.End ≡ Err NoOpenJob = cond_false _ _ _ f in
+            let o : outcome (h.tasks i) event.End ≡ Err NoOpenJob = cond-false _ _ _ f in
             let z : n ≡ NoOpenJob = cc in
             let none = not_open (h.tasks i).job f in
             (end_by false f ∙ ap Some (sym z), with_same h i _ (λ k. record { last = (h.tasks i).last; job = sym none k }))

@@ -1,7 +1,7 @@
 -- The tick of an engine that does not look for late jobs, in the partition that owns it.
 use Rattle.std.proofs.Common.{◌≡◌, ℕ, ◌<◌, false, cond, List, length, Some, None, Option, sym, refl, ap, ◌∙◌, inl, inr}
 use mathlib.Core.Path.{fun_ext}
-use Rattle.std.proofs.lemmas.Bool.{cond_true, cond_false, eq-eqb, ne_eqb, cases_eq}
+use Rattle.std.proofs.lemmas.Bool.{cond-true, cond-false, eq-eqb, ne_eqb, cases_eq}
 use Rattle.model.specs.declared.job.TaskState.{TaskState}
 use Rattle.model.specs.declared.reply.Progress.{Progress}
 use Rattle.model.specs.declared.reply.Reply.TheVariants.{Idle, Ran}
@@ -20,7 +20,7 @@ module _ (h after : PartitionState) (i : ℕ) (x : TaskState) (stored : after �
 
   pub others_same : (j : ℕ) → is_runner (Some i) j ≡ false → after.tasks j ≡ h.tasks j
   unfolding is_runner put
-  others_same j e = ap (λ (z : PartitionState). z.tasks j) stored ∙ cond_false _ _ _ e
+  others_same j e = ap (λ (z : PartitionState). z.tasks j) stored ∙ cond-false _ _ _ e
 
 module _ (rule : DispatchRule) (p : ℕ) (ks : List Task) (h : PartitionState) where
   -- the choice does not ask for the timetable
@@ -39,7 +39,7 @@ module _ (rule : DispatchRule) (p : ℕ) (ks : List Task) (h : PartitionState) w
     ticked_is : (t : Timetable) (u : ℕ) → owner_at t u ≡ Some p → with_tasks (work o) ≡ ticked (executive t rule) p ks u h
     unfolding ticked late worked runner owned_by work with_tasks
     ticked_is t u own =
-        let owned : runner (executive t rule) p ks u h.tasks ≡ chosen (executive t rule) p ks h.tasks = ap (λ q. cond (owned_by p q) (chosen (executive t rule) p ks h.tasks) None) own ∙ cond_true _ _ _ (eq-eqb p p refl) in
+        let owned : runner (executive t rule) p ks u h.tasks ≡ chosen (executive t rule) p ks h.tasks = ap (λ q. cond (owned_by p q) (chosen (executive t rule) p ks h.tasks) None) own ∙ cond-true _ _ _ (eq-eqb p p refl) in
         ap (λ q. with_tasks (work q)) (c ∙ (chosen_any t ∙ sym owned))
 
     replies : (t : Timetable) → turn_reply p ks h.tasks o ≡ turn_reply p ks h.tasks (chosen (executive t rule) p ks h.tasks)
@@ -66,8 +66,8 @@ module _ (rule : DispatchRule) (p : ℕ) (ks : List Task) (h : PartitionState) w
     work_some : work (Some i) ≡ put h.tasks i (run_on ks h.tasks i)
     unfolding work is_runner
     work_some = fun_ext (λ j. elim (cases_eq j i) [
-      | inl z ↦ cond_true _ _ _ (eq-eqb j i z) ∙ rw z (sym (put_same h.tasks i (run_on ks h.tasks i)))
-      | inr d ↦ cond_false _ _ _ (ne_eqb j i d) ∙ sym (put_other h.tasks i (run_on ks h.tasks i) j d)
+      | inl z ↦ cond-true _ _ _ (eq-eqb j i z) ∙ rw z (sym (put_same h.tasks i (run_on ks h.tasks i)))
+      | inr d ↦ cond-false _ _ _ (ne_eqb j i d) ∙ sym (put_other h.tasks i (run_on ks h.tasks i) j d)
     ])
 
     pub ran_tick : (after : PartitionState) → after ≡ with_state h i (run_on ks h.tasks i) → (t : Timetable) (u : ℕ) → owner_at t u ≡ Some p → after ≡ ticked (executive t rule) p ks u h

@@ -1,4 +1,6 @@
 // What is known of one partition while a module runs: its jobs, its fault entries, and the clock that they go by.
+#![tactic(auto)]
+
 mod choice;
 mod clock;
 mod event;

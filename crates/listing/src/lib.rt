@@ -1,4 +1,6 @@
 // A tape as text: a line a command, or one line for the refusal.
+#![tactic(auto)]
+
 mod contents;
 mod line;
 

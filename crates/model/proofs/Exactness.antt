@@ -5,7 +5,7 @@ use Rattle.model.specs.declared.call.Call.{Call}
 use Rattle.model.specs.declared.call.Call.TheVariants.{Of as call, Tick as tick}
 use Rattle.model.specs.declared.call.Request.TheVariants.{End as end, Release as release}
 use Rattle.model.specs.FlightRecords.{Entry, LateRecord, flight, flown}
-use Rattle.model.specs.InTime.{D, InTime, Partition, Passes, in_time, passes, size}
+use Rattle.model.specs.InTime.{D, InTime, Partition, Passes, passes, size}
 use Rattle.model.specs.Machine.{MachineState, after, closed, last_tick, new, put, released}
 use Rattle.model.specs.Modules.{Module, has_partition}
 use Rattle.model.specs.Orders.{Order}

@@ -1,6 +1,6 @@
 -- Where a task does not pass, a run has a late job.
 use Rattle.std.proofs.Common.{◌≡◌, ℕ, zero, suc, ◌+◌, ◌*◌, ◌<◌, ◌≤◌, Bool, true, false, cond, ◌||◌, eqb, leb, ◌⊎◌, List, [], ◌∷◌, ◌++◌, is_some, Some, None, Option, sym, refl, ap, ◌∙◌, subst, inl, inr, add-one, arith}
-use Rattle.std.proofs.lemmas.Bool.{and_from, and_right, both_ways, cases_Bool, cases_eq, cases_lt, cond_false, cond_true, eq-eqb, eqb-true, le-leb, leb-false, lt-leb, lt-ltb, or_cases, or_left, or_right}
+use Rattle.std.proofs.lemmas.Bool.{and_from, and_right, both_ways, cases_Bool, cases_eq, cases_lt, cond-false, cond-true, eq-eqb, eqb-true, le-leb, leb-false, lt-leb, lt-ltb, or_cases, or_left, or_right}
 use Rattle.model.specs.declared.job.Job.{Job}
 use Rattle.model.specs.declared.job.TaskState.{TaskState}
 use Rattle.model.specs.InTime.{C, D, Partition, Passes, T, ceil, size, sum_before, supply}
@@ -48,11 +48,11 @@ module _ (p : Partition) (st : State) (n : ℕ) where
 
   call_free : n < size p → ready (T p n) (st.tasks n).last ≤ st.now → (step p st (release n)).tasks n ≡ released st.now
   unfolding step may_release released
-  call_free l h = ap (λ (x : State). x.tasks n) (cond_true _ _ st (and_from _ _ (lt-ltb n (size p) l) (le-leb _ st.now h))) ∙ put_same st.tasks n _
+  call_free l h = ap (λ (x : State). x.tasks n) (cond-true _ _ st (and_from _ _ (lt-ltb n (size p) l) (le-leb _ st.now h))) ∙ put_same st.tasks n _
 
   call_refused : st.now < ready (T p n) (st.tasks n).last → (step p st (release n)).tasks n ≡ st.tasks n
   unfolding step may_release
-  call_refused h = ap (λ (x : State). x.tasks n) (cond_false _ _ st (and_right _ _ (lt-leb _ st.now h)))
+  call_refused h = ap (λ (x : State). x.tasks n) (cond-false _ _ st (and_right _ _ (lt-leb _ st.now h)))
 
 module _ (p : Partition) (i : ℕ) where
   calls_now : (m : ℕ) (st : State) → (run p st (calls p i m)).now ≡ st.now
@@ -262,7 +262,7 @@ module _ (p : Partition) (ok : Proper p) (i : ℕ) (il : i < size p) (s : ℕ) (
       e = h.e;
       mine = record { released = h.mine.released; ran = h.mine.ran + 1 };
       did = λ j l b. rw (rests_other p st j i r (not_i j b)) (h.did j l b);
-      mine_is = works p st i i r refl ∙ ap (one_on (C p i)) h.mine_is ∙ cond_false _ _ _ (lt-leb (C p i) (h.mine.ran + 1) (omega (arith, not_last f o)));
+      mine_is = works p st i i r refl ∙ ap (one_on (C p i)) h.mine_is ∙ cond-false _ _ _ (lt-leb (C p i) (h.mine.ran + 1) (omega (arith, not_last f o)));
       mine_from = h.mine_from;
       used = omega (arith, h.used, supplied true o);
     }
@@ -306,7 +306,7 @@ module _ (p : Partition) (ok : Proper p) (i : ℕ) (il : i < size p) (s : ℕ) (
         v = ticked t
 
         same : (j : ℕ) → j < size p → cond (late p st j) (closed (after_work p st j)) (after_work p st j) ≡ after_work p st j
-        same j l = cond_false _ _ _ (none j l)
+        same j l = cond-false _ _ _ (none j l)
 
         in_time : (j : ℕ) → j < size p → (b : Job) → (after_work p st j).job ≡ Some b → st.now + 1 < b.released + D p j
         in_time j l b g = not_over p st j b g (none j l)
@@ -340,11 +340,11 @@ module _ (p : Partition) (ok : Proper p) (i : ℕ) (il : i < size p) (s : ℕ) (
 
     more_one : (j : ℕ) → due j ≤ st.now → more j ≡ 1
     unfolding more
-    more_one j d = cond_true _ _ _ (le-leb _ _ d)
+    more_one j d = cond-true _ _ _ (le-leb _ _ d)
 
     more_none : (j : ℕ) → st.now < due j → more j ≡ 0
     unfolding more
-    more_none j d = cond_false _ _ _ (lt-leb _ _ d)
+    more_none j d = cond-false _ _ _ (lt-leb _ _ d)
 
     data After (j : ℕ) : Type 0 where
       kept : after j ≡ st.tasks j → After j

@@ -1,6 +1,6 @@
 -- A task that is in time is never late.
 use Rattle.std.proofs.Common.{◌≡◌, ℕ, ◌+◌, ◌<◌, ◌≤◌, Bool, true, false, cond, ◌⊎◌, is_some, Some, None, Option, sym, refl, ap, ◌∙◌, subst, inl, inr, arith}
-use Rattle.std.proofs.lemmas.Bool.{and_parts, both_ways, cases_Bool, cases_eq, cond_false, cond_true, leb-true, lt-leb, ltb-true}
+use Rattle.std.proofs.lemmas.Bool.{and_parts, both_ways, cases_Bool, cases_eq, cond-false, cond-true, leb-true, lt-leb, ltb-true}
 use Rattle.model.specs.declared.job.Job.{Job}
 use Rattle.model.specs.declared.job.TaskState.{TaskState}
 use Rattle.model.specs.InTime.{C, D, Partition, Passes, T, size}
@@ -26,7 +26,7 @@ module _ (p : Partition) (ok : Proper p) (i : ℕ) (il : i < size p) (st : State
       BusyWindow p i s st.now st.tasks own → BusyWindow p i s (st.now + 1) (after_work p st) own
   window_idle s own few o r v =
       goes_on p ok i il s st.now st.tasks (after_work p st) own own v v.e
-      (omega (arith, cond_false {A = ℕ} _ 1 0 o))
+      (omega (arith, cond-false {A = ℕ} _ 1 0 o))
       (λ j l b. rw (rests_none p st j r) (omega arith))
       (λ j l. same_last p st j)
       h.past
@@ -38,7 +38,7 @@ module _ (p : Partition) (ok : Proper p) (i : ℕ) (il : i < size p) (st : State
       BusyWindow p i s st.now st.tasks own → BusyWindow p i s (st.now + 1) (after_work p st) own
   window_before s own k few o r kl ko kb v =
       goes_on p ok i il s st.now st.tasks (after_work p st) own own v (λ j. v.e j + at k j)
-      (omega (arith, cond_true {A = ℕ} _ 1 0 o, before_more p i v.e k kl kb))
+      (omega (arith, cond-true {A = ℕ} _ 1 0 o, before_more p i v.e k kl kb))
       (λ j l b. elim (cases_eq j k) [
         | inl z ↦ mine j l z
         | inr z ↦ rw (rests_other p st j k r z, at_other k j z) (omega arith)
@@ -57,7 +57,7 @@ module _ (p : Partition) (ok : Proper p) (i : ℕ) (il : i < size p) (st : State
       BusyWindow p i s st.now st.tasks own → BusyWindow p i s (st.now + 1) (after_work p st) (own + 1)
   window_own s own few o r v =
       goes_on p ok i il s st.now st.tasks (after_work p st) own (own + 1) v v.e
-      (omega (arith, cond_true {A = ℕ} _ 1 0 o))
+      (omega (arith, cond-true {A = ℕ} _ 1 0 o))
       (λ j l b. rw (rests_other p st j i r (λ z. both_ways _ (ok.irreflexive i) (ap (λ x. p.before x i) (sym z) ∙ b))) (omega arith))
       (λ j l. same_last p st j)
       h.past

@@ -2,7 +2,7 @@
 use Rattle.std.proofs.Common.{◌≡◌, ℕ, ◌+◌, ◌%◌, ◌≤◌, Bool, true, false, cond, not, ◌&&◌, ltb, List, [], ◌∷◌, length, Some, None, Option, sym, refl, ap, ◌∙◌, subst, ap₂, inl, inr, mod-lt, arith}
 use mathlib.Core.List.{map}
 use mathlib.Core.Path.{fun_ext}
-use Rattle.std.proofs.lemmas.Bool.{both_ways, cases_eq, cases_lt, cond_false, cond_true, eq-eqb, eqb-true, le-ltb, lt-ltb, ne_eqb}
+use Rattle.std.proofs.lemmas.Bool.{both_ways, cases_eq, cases_lt, cond-false, cond-true, eq-eqb, eqb-true, le-ltb, lt-ltb, ne_eqb}
 use Rattle.model.specs.declared.call.Call.{Call}
 use Rattle.model.specs.declared.call.Request.{Request}
 use Rattle.model.specs.declared.job.TaskState.{TaskState}
@@ -67,11 +67,11 @@ module _ (g : Engine) (m : Module) where
   unfolding ticks is_tick after reply accepted
   clock st tick = elim (cases_lt st.now last_tick) [
     | inl l ↦
-        ap (λ (x : MachineState). x.now) (cond_true {A = MachineState} _ _ _ (lt-ltb _ _ l)) ∙
-        ap {B = ℕ} (λ b. st.now + cond b 1 0) (sym (ap accepted (cond_true {A = Reply} _ _ _ (lt-ltb _ _ l)) ∙ tick_accepted g m st _))
+        ap (λ (x : MachineState). x.now) (cond-true {A = MachineState} _ _ _ (lt-ltb _ _ l)) ∙
+        ap {B = ℕ} (λ b. st.now + cond b 1 0) (sym (ap accepted (cond-true {A = Reply} _ _ _ (lt-ltb _ _ l)) ∙ tick_accepted g m st _))
     | inr l ↦
-        ap (λ (x : MachineState). x.now) (cond_false {A = MachineState} _ _ _ (le-ltb _ _ l)) ∙ plus ∙
-        ap {B = ℕ} (λ b. st.now + cond b 1 0) (sym (ap accepted (cond_false {A = Reply} _ _ _ (le-ltb _ _ l))))
+        ap (λ (x : MachineState). x.now) (cond-false {A = MachineState} _ _ _ (le-ltb _ _ l)) ∙ plus ∙
+        ap {B = ℕ} (λ b. st.now + cond b 1 0) (sym (ap accepted (cond-false {A = Reply} _ _ _ (le-ltb _ _ l))))
   ]
     where
       plus : st.now ≡ st.now + 0
@@ -99,11 +99,11 @@ module _ (g : Engine) (m : Module) where
     -- a call that names p
     own_after : (st : MachineState) (a : Request) → (after g m st (call p a)).partitions p ≡ asked st.now (st.partitions p) a (refusal (tasks_of m p) st.now (st.partitions p) a)
     unfolding after
-    own_after st a = ap (λ (x : MachineState). x.partitions p) (cond_true {A = MachineState} _ _ _ pl) ∙ put_same st.partitions p _
+    own_after st a = ap (λ (x : MachineState). x.partitions p) (cond-true {A = MachineState} _ _ _ pl) ∙ put_same st.partitions p _
 
     own_told : (st : MachineState) (a : Request) → reply g m st (call p a) ≡ told (refusal (tasks_of m p) st.now (st.partitions p) a) (answered (tasks_of m p) st.now (st.partitions p) a)
     unfolding reply
-    own_told st a = cond_true _ _ _ pl
+    own_told st a = cond-true _ _ _ pl
 
     call_now : (st : MachineState) (q : ℕ) (a : Request) → (after g m st (call q a)).now ≡ st.now
     unfolding ticks is_tick
@@ -129,15 +129,15 @@ module _ (g : Engine) (m : Module) where
     own_call : (st : MachineState) (a : Request) (cs : List Call) → Goal (after g m st (call p a)) cs → Goal st (call p a ∷ cs)
     unfolding own_entries flight solo kept concerns names_other
     own_call st a cs ih =
-        cond_true _ _ _ (eq-eqb p p refl) ∙
+        cond-true _ _ _ (eq-eqb p p refl) ∙
         ap₂ (λ (x : Reply) (r : List Entry). record { call = call p a; answer = x } ∷ r) (own_told st a) (rest st (call p a) cs _ _ (call_now st p a) (own_after st a) ih) ∙
-        sym (ap (solo g p (tasks_of m p) st.now (st.partitions p)) (cond_false _ _ _ (ap not (eq-eqb p p refl))))
+        sym (ap (solo g p (tasks_of m p) st.now (st.partitions p)) (cond-false _ _ _ (ap not (eq-eqb p p refl))))
 
     other_call : (st : MachineState) (q : ℕ) (a : Request) (cs : List Call) → (q ≡ p → ⊥) → Goal (after g m st (call q a)) cs → Goal st (call q a ∷ cs)
     unfolding own_entries flight kept concerns names_other
     other_call st q a cs d ih =
-        cond_false _ _ _ (ne_eqb q p d) ∙ rest st (call q a) cs _ _ (call_now st q a) (other_after st q a (λ z. d (sym z))) ih ∙
-        sym (ap (solo g p (tasks_of m p) st.now (st.partitions p)) (cond_true _ _ _ (ap not (ne_eqb q p d))))
+        cond-false _ _ _ (ne_eqb q p d) ∙ rest st (call q a) cs _ _ (call_now st q a) (other_after st q a (λ z. d (sym z))) ih ∙
+        sym (ap (solo g p (tasks_of m p) st.now (st.partitions p)) (cond-true _ _ _ (ap not (ne_eqb q p d))))
 
     one_tick : (st : MachineState) (cs : List Call) → Goal (after g m st tick) cs → Goal st (tick ∷ cs)
     unfolding own_entries flight solo kept concerns names_other

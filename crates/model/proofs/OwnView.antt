@@ -1,6 +1,6 @@
 -- Partition p of the plain machine goes its own way.
 use Rattle.std.proofs.Common.{◌≡◌, ℕ, ◌<◌, ◌≤◌, Bool, true, false, cond, ◌&&◌, ltb, leb, length, is_some, Some, None, Option, sym, refl, ap, ◌∙◌, inl, inr}
-use Rattle.std.proofs.lemmas.Bool.{cases_Bool, cases_eq, cases_lt, cond_false, cond_true, le-ltb, lt-ltb}
+use Rattle.std.proofs.lemmas.Bool.{cases_Bool, cases_eq, cases_lt, cond-false, cond-true, le-ltb, lt-ltb}
 use Rattle.model.specs.declared.call.Call.{Call}
 use Rattle.model.specs.declared.call.Request.{Request}
 use Rattle.model.specs.declared.job.TaskState.{TaskState}
@@ -62,16 +62,16 @@ clear_tasks now h (Some n) = refl
 module _ (g : Engine) (m : Module) (p : ℕ) (st : MachineState) where
   pub view_last : last_tick ≤ st.now → after g m st tick ≡ st
   unfolding after
-  view_last l = cond_false _ _ _ (le-ltb st.now last_tick l)
+  view_last l = cond-false _ _ _ (le-ltb st.now last_tick l)
 
   pub view_lacks : (q : ℕ) (a : Request) → has_partition m q ≡ false → after g m st (call q a) ≡ st
   unfolding after
-  view_lacks q a l = cond_false _ _ _ l
+  view_lacks q a l = cond-false _ _ _ l
 
   pub view_call : (q : ℕ) (a : Request) → has_partition m q ≡ true →
       after g m st (call q a) ≡ record { now = st.now; partitions = put st.partitions q (asked st.now (st.partitions q) a (refusal (tasks_of m q) st.now (st.partitions q) a)) }
   unfolding after
-  view_call q a l = cond_true _ _ _ l
+  view_call q a l = cond-true _ _ _ l
 
   pub view_other : (q : ℕ) (a : Request) → has_partition m q ≡ true → (p ≡ q → ⊥) → view p (after g m st (call q a)) ≡ view p st
   view_other q a l d = ap (view p) (view_call q a l) ∙ ap (λ (h : PartitionState). with_tasks st.now h.tasks) (put_other st.partitions q _ p d)
@@ -115,7 +115,7 @@ module _ (t : Timetable) (order : Order) (m : Module) where
 
     pub tick_is : st.now < last_tick → view p (after g m st tick) ≡ one.step (P p) (view p st) one.Event.tick
     unfolding after ticked late worked runner chosen one.step one.late one.after_work one.runner size
-    tick_is l = ap (view p) (cond_true _ _ _ (lt-ltb st.now last_tick l))
+    tick_is l = ap (view p) (cond-true _ _ _ (lt-ltb st.now last_tick l))
 
     pub release_is : (i : ℕ) → has_partition m p ≡ true → view p (after g m st (call p (release i))) ≡ one.step (P p) (view p st) (one.Event.release i)
     unfolding one.step one.may_release size

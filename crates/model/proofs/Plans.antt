@@ -2,19 +2,18 @@
 use Rattle.std.proofs.Common.{◌≡◌, ℕ, zero, suc, ◌+◌, ◌-◌, ◌%◌, ◌<◌, ◌≤◌, Bool, true, false, cond, ◌&&◌, eqb, ltb, leb, List, [], ◌∷◌, length, get_or, Some, None, sum, Option, sym, refl, ap, ◌∙◌, subst, inl, inr, mod-lt, mod-eq_of_lt, arith}
 use native.Mathlib.Nat.{add-mod_right, mod-add-mod}
 use Rattle.std.proofs.lemmas.List.Sums.{sum_by-cons}
-use Rattle.std.proofs.lemmas.Bool.{and_from, and_left, and_parts, and_right, both_ways, cases_eq, cases_lt, cond_both, cond_true, eq-eqb, eqb-true, le-leb, le-ltb, leb-true, lt-leb, lt-ltb, ltb-true, ne_eqb}
+use Rattle.std.proofs.lemmas.Bool.{and_from, and_left, and_parts, and_right, both_ways, cases_eq, cases_lt, cond_both, cond-true, eq-eqb, eqb-true, le-leb, le-ltb, leb-true, lt-leb, lt-ltb, ltb-true, ne_eqb}
 use Rattle.model.specs.declared.task.Task.{Task}
 use Rattle.model.specs.declared.window.Window.{Window}
 use Rattle.model.specs.Answers.{Answer, and_then, granted, refused}
 use Rattle.model.specs.Decisions.{PlansClear}
-use Rattle.model.specs.InTime.{D, InTime, Partition, demand, in_time, partition, size, sum_before, supply}
+use Rattle.model.specs.InTime.{D, InTime, Partition, demand, partition, size, sum_before, supply}
 use Rattle.model.specs.Modules.{Module, tasks_of}
 use Rattle.model.specs.Orders.{Order}
 use Rattle.model.specs.Planning.{end_to_end, first_places, least_q, least_qs, plan, room_answer, windows_for, with_first, with_q}
 use Rattle.model.specs.Timetables.{Timetable, opened, owned_by, owner_at, window_owner, window_timetable}
 use Rattle.model.specs.Verdicts.{Cleared}
 use Rattle.model.specs.WindowLists.{against, count_answer, end_of, frame_answer, list_answer, naming, overlap, window_answer, windows_answer}
-use Rattle.model.proofs.Decisions.{names_own}
 use Rattle.model.proofs.Gaps.{first_again}
 use Rattle.model.proofs.Limits.{has_part, limits}
 use Rattle.model.proofs.Options.{none_some}
@@ -167,7 +166,7 @@ Ended (Some v) x = end_of v ≤ x
 
 clear_of : (v : Option Window) (w : Window) → Ended v w.start → against overlap v w ≡ None
 clear_of None w h = refl
-clear_of (Some v) w h = cond_true _ _ _ (le-leb (end_of v) w.start h)
+clear_of (Some v) w h = cond-true _ _ _ (le-leb (end_of v) w.start h)
 
 module _ (f : ℕ) where
   abbrev at_place : ℕ → ℕ → ℕ → Window
@@ -175,7 +174,7 @@ module _ (f : ℕ) where
 
   one_allowed : (i p x q : ℕ) (v : Option Window) → 1 ≤ q → p ≤ 7 → x + q ≤ f → Ended v x → window_answer overlap f i v (at_place p x q) ≡ granted tt
   one_allowed i p x q v a b c h =
-      cond_true _ _ _ (and_from (leb 1 q) _ (le-leb 1 q a) (and_from (leb p 7) _ (le-leb p 7 b) (le-leb (x + q) f c))) ∙ ap (naming i) (clear_of v (at_place p x q) h)
+      cond-true _ _ _ (and_from (leb 1 q) _ (le-leb 1 q a) (and_from (leb p 7) _ (le-leb p 7 b) (le-leb (x + q) f c))) ∙ ap (naming i) (clear_of v (at_place p x q) h)
 
   allowed : (i p x : ℕ) (qs : List ℕ) (v : Option Window) → x + sum qs ≤ f → p + length qs ≤ 8 → Ended v x → windows_answer overlap f i v (end_to_end p x qs) ≡ granted tt
   unfolding end_to_end
@@ -201,9 +200,9 @@ module _ (f : ℕ) where
   list_allowed : (qs : List ℕ) → (1 ≤ f) × (f ≤ 1024) → sum qs ≤ f → length qs ≤ 8 → list_answer overlap f (end_to_end 0 0 qs) ≡ granted tt
   list_allowed qs h a b =
       ap (λ x. and_then x (and_then (count_answer (length (end_to_end 0 0 qs))) (windows_answer overlap f 0 None (end_to_end 0 0 qs))))
-      (cond_true _ _ _ (and_from (leb 1 f) _ (le-leb 1 f h.0) (le-leb f 1024 h.1)))
+      (cond-true _ _ _ (and_from (leb 1 f) _ (le-leb 1 f h.0) (le-leb f 1024 h.1)))
       ∙ ap (λ x. and_then x (windows_answer overlap f 0 None (end_to_end 0 0 qs)))
-      (cond_true _ _ _ (le-leb (length (end_to_end 0 0 qs)) 64 (omega (arith, few_windows 0 0 qs))))
+      (cond-true _ _ _ (le-leb (length (end_to_end 0 0 qs)) 64 (omega (arith, few_windows 0 0 qs))))
       ∙ allowed 0 0 0 qs None (omega arith) (omega arith) tt
 
 -- A partition with q places from x on is as well served as with the first q.

@@ -1,7 +1,7 @@
 -- On a machine that is never late a job is ended or has run its cost by its deadline.
 use Rattle.std.proofs.Common.{◌≡◌, ℕ, ◌+◌, ◌<◌, ◌≤◌, Bool, true, false, cond, eqb, leb, ◌⊎◌, List, [], ◌∷◌, ◌++◌, length, is_some, Some, None, Option, sym, refl, ap, ◌∙◌, subst, ap₂, subst₂, inl, inr, arith}
 use Rattle.std.proofs.lemmas.List.{append_assoc}
-use Rattle.std.proofs.lemmas.Bool.{and_from, and_left, and_parts, and_right, both_ways, cases_Bool, cases_eq, cases_lt, cond_false, cond_true, eq-eqb, eqb-true, lt-leb, lt-ltb, ltb-true, ne_eqb}
+use Rattle.std.proofs.lemmas.Bool.{and_from, and_left, and_parts, and_right, both_ways, cases_Bool, cases_eq, cases_lt, cond-false, cond-true, eq-eqb, eqb-true, lt-leb, lt-ltb, ltb-true, ne_eqb}
 use Rattle.model.specs.declared.call.Call.{Call}
 use Rattle.model.specs.declared.call.Request.{Request}
 use Rattle.model.specs.declared.job.Job.{Job}
@@ -12,7 +12,7 @@ use Rattle.model.specs.declared.task.Task.{Task}
 use Rattle.model.specs.declared.call.Call.TheVariants.{Of as call, Tick as tick}
 use Rattle.model.specs.declared.call.Request.TheVariants.{Clear as clear, End as end, Fault as fault, Release as release}
 use Rattle.model.specs.declared.refusal.Refusal.TheVariants.{NoOpenJob, NoSuchPartition, NoSuchTask, TooSoon}
-use Rattle.model.specs.declared.reply.Reply.TheVariants.{Ran as ran, Refused as refused}
+use Rattle.model.specs.declared.reply.Reply.TheVariants.{Refused as refused}
 use Rattle.model.specs.FlightRecords.{Entry, FlightRecord, Served, accepted, asks_end, asks_release, calls_end, calls_release, ends, flight, how_many, is_tick, names_task, releases, runs, ticks, up_to}
 use Rattle.model.specs.Machine.{DispatchRule, Engine, MachineState, after, by_order, chosen, answered, is_runner, last_tick, new, one_on, put, ready, refusal, released, reply, runner, tick_reply, ticked, told, turn_reply, unless, worked}
 use Rattle.model.specs.Modules.{Module, has_partition, task_of, tasks_of}
@@ -89,7 +89,7 @@ module _ (t : Timetable) (rule : DispatchRule) (m : Module) (p i : ℕ) (st : Ma
     last_or_more : (e : Entry) → runs p i e ≡ true → Next p i cost b e (record { last = (xs i).last; job = one_on cost (xs i).job })
     unfolding one_on
     last_or_more e r = elim (cases_lt (b.ran + 1) cost) [
-      | inl l ↦ ran_on r (ap (λ (x : TaskState). record { last = x.last; job = one_on cost x.job }) open_at ∙ ap (λ (o : Option Job). record { last = Some b.released; job = o }) (cond_false _ _ _ (lt-leb _ _ l)))
+      | inl l ↦ ran_on r (ap (λ (x : TaskState). record { last = x.last; job = one_on cost x.job }) open_at ∙ ap (λ (o : Option Job). record { last = Some b.released; job = o }) (cond-false _ _ _ (lt-leb _ _ l)))
       | inr l ↦ spent r l
     ]
 
@@ -101,8 +101,8 @@ module _ (t : Timetable) (rule : DispatchRule) (m : Module) (p i : ℕ) (st : Ma
         cond_same true = refl
         cond_same false = refl
     own_tick (Some k) e = elim (cases_eq i k) [
-      | inl z ↦ subst (Next p i cost b (said (Some p))) (sym (cond_true _ _ _ (mine ∙ eq-eqb i k z))) (last_or_more (said (Some p)) (names z))
-      | inr d ↦ rested (cond_false _ _ _ (mine ∙ ne_eqb i k d) ∙ open_at)
+      | inl z ↦ subst (Next p i cost b (said (Some p))) (sym (cond-true _ _ _ (mine ∙ eq-eqb i k z))) (last_or_more (said (Some p)) (names z))
+      | inr d ↦ rested (cond-false _ _ _ (mine ∙ ne_eqb i k d) ∙ open_at)
     ]
       where
         mine : is_runner (cond (owned_by p (Some p)) (Some k) None) i ≡ eqb i k
@@ -134,11 +134,11 @@ module _ (t : Timetable) (rule : DispatchRule) (m : Module) (p i : ℕ) (st : Ma
     module _ (ok : Limits m) (quiet_now : Quiet t rule m ok st) (il : i < length ts) where
       task_ticked : st.now < last_tick → task_after tick ≡ work (owner_at t st.now) (chosen G p ts xs)
       unfolding after ticked worked runner
-      task_ticked l = ap (λ (x : MachineState). (x.partitions p).tasks i) (cond_true {A = MachineState} _ _ _ (lt-ltb _ _ l)) ∙ cond_false _ _ _ (not_late t rule m ok st quiet_now l p i)
+      task_ticked l = ap (λ (x : MachineState). (x.partitions p).tasks i) (cond-true {A = MachineState} _ _ _ (lt-ltb _ _ l)) ∙ cond-false _ _ _ (not_late t rule m ok st quiet_now l p i)
 
       tick_said : st.now < last_tick → reply G m st tick ≡ tick_reply G m st (owner_at t st.now)
       unfolding reply
-      tick_said l = cond_true _ _ _ (lt-ltb _ _ l)
+      tick_said l = cond-true _ _ _ (lt-ltb _ _ l)
 
       tick_step : Step tick
       tick_step = elim (cases_lt st.now last_tick) [
@@ -154,7 +154,7 @@ module _ (t : Timetable) (rule : DispatchRule) (m : Module) (p i : ℕ) (st : Ma
 
       release_step : (j : ℕ) → has_partition m p ≡ true → Step (call p (release j))
       release_step j l = elim (cases_eq i j) [
-        | inl z ↦ subst (λ n. Step (call p (release n))) z (same_task (call p (release i)) (view_release G m p st i l ∙ cond_false _ _ _ (and_right _ _ not_ready)))
+        | inl z ↦ subst (λ n. Step (call p (release n))) z (same_task (call p (release i)) (view_release G m p st i l ∙ cond-false _ _ _ (and_right _ _ not_ready)))
         | inr d ↦ rested (ap (λ (w : one.State). w.tasks i) (view_release G m p st j l) ∙ else_where (view p st) j _ (may_release G m p st j) i d ∙ open_at)
       ]
 
@@ -162,7 +162,7 @@ module _ (t : Timetable) (rule : DispatchRule) (m : Module) (p i : ℕ) (st : Ma
       unfolding ends calls_end asks_end reply refusal accepted answered
       ends_it l =
           and_from _ _ (and_from _ _ (eq-eqb p p refl) (eq-eqb i i refl))
-          (ap accepted (cond_true {A = Reply} (has_partition m p) _ (refused NoSuchPartition) l ∙ told_yes _ _ NoSuchTask NoOpenJob (answered ts st.now (st.partitions p) (end i)) (lt-ltb _ _ il) (ap (λ (x : TaskState). is_some x.job) open_at)))
+          (ap accepted (cond-true {A = Reply} (has_partition m p) _ (refused NoSuchPartition) l ∙ told_yes _ _ NoSuchTask NoOpenJob (answered ts st.now (st.partitions p) (end i)) (lt-ltb _ _ il) (ap (λ (x : TaskState). is_some x.job) open_at)))
 
       end_step : (j : ℕ) → has_partition m p ≡ true → Step (call p (end j))
       end_step j l = elim (cases_eq i j) [
@@ -189,8 +189,8 @@ module _ (t : Timetable) (rule : DispatchRule) (m : Module) (p i : ℕ) (st : Ma
       refused_now : accepted (reply G m st (call p (release i))) ≡ false
       unfolding reply refusal accepted
       refused_now = elim (cases_Bool (has_partition m p)) [
-        | inl l ↦ ap accepted (cond_true _ _ _ l) ∙ told_not _ _ NoSuchTask TooSoon _ not_ready
-        | inr l ↦ ap accepted (cond_false _ _ _ l)
+        | inl l ↦ ap accepted (cond-true _ _ _ l) ∙ told_not _ _ NoSuchTask TooSoon _ not_ready
+        | inr l ↦ ap accepted (cond-false _ _ _ l)
       ]
 
       no_release : (c : Call) → releases p i (entry_of c) ≡ false
@@ -220,15 +220,15 @@ module _ (p i c : ℕ) (e : Entry) (l : List Entry) where
   done_ran : (r : ℕ) → runs p i e ≡ true → Done p i c (r + 1) l → Done p i c r (e ∷ l)
   unfolding how_many
   done_ran r y (inl h) = inl (omega arith)
-  done_ran r y (inr h) = inr (omega (arith, cond_true {A = ℕ} _ 1 0 y))
+  done_ran r y (inr h) = inr (omega (arith, cond-true {A = ℕ} _ 1 0 y))
 
   done_ended : (r : ℕ) → ends p i e ≡ true → Done p i c r (e ∷ l)
   unfolding how_many
-  done_ended r y = inl (omega (arith, cond_true {A = ℕ} _ 1 0 y))
+  done_ended r y = inl (omega (arith, cond-true {A = ℕ} _ 1 0 y))
 
   done_spent : (r : ℕ) → runs p i e ≡ true → c ≤ r + 1 → Done p i c r (e ∷ l)
   unfolding how_many
-  done_spent r y h = inr (omega (arith, cond_true {A = ℕ} _ 1 0 y))
+  done_spent r y h = inr (omega (arith, cond-true {A = ℕ} _ 1 0 y))
 
 module _ (t : Timetable) (rule : DispatchRule) (m : Module) (ok : Limits m) (p i : ℕ) (il : i < length (tasks_of m p)) where
   abbrev K : ℕ
@@ -240,7 +240,7 @@ module _ (t : Timetable) (rule : DispatchRule) (m : Module) (ok : Limits m) (p i
   unfolding flight how_many up_to
   serve [] st b quiet_now open_at l = absurd (omega (arith, (quiet_now.tidy p).young i il b (ap (λ (x : TaskState). x.job) open_at)))
   serve (c ∷ cs) st b quiet_now open_at l =
-      subst (Done p i K b.ran) (sym (cond_false _ _ _ (no_release t rule m p i st b open_at ok quiet_now il c)))
+      subst (Done p i K b.ran) (sym (cond-false _ _ _ (no_release t rule m p i st b open_at ok quiet_now il c)))
       (go (next t rule m p i st b open_at ok quiet_now il c) (λ b'. serve cs (after (plain t rule) m st c) b' (quiet_after t rule m ok st c quiet_now)))
     where
       e : Entry
@@ -310,9 +310,9 @@ module _ (t : Timetable) (rule : DispatchRule) (m : Module) (p i : ℕ) (st : Ma
   unfolding reply refusal accepted
   opened h = elim (cases_Bool (has_partition m p)) [
     | inl l ↦
-        let v = told_both _ _ NoSuchTask TooSoon _ (ap accepted (sym (cond_true _ _ (refused NoSuchPartition) l)) ∙ h) in
-        (ltb-true _ _ v.0, ap (λ (w : one.State). w.tasks i) (view_release (plain t rule) m p st i l ∙ cond_true _ _ _ (and_from _ _ v.0 v.1)) ∙ put_same _ i _)
-    | inr l ↦ absurd (both_ways _ (ap accepted (cond_false {A = Reply} _ _ (refused NoSuchPartition) l)) h)
+        let v = told_both _ _ NoSuchTask TooSoon _ (ap accepted (sym (cond-true _ _ (refused NoSuchPartition) l)) ∙ h) in
+        (ltb-true _ _ v.0, ap (λ (w : one.State). w.tasks i) (view_release (plain t rule) m p st i l ∙ cond-true _ _ _ (and_from _ _ v.0 v.1)) ∙ put_same _ i _)
+    | inr l ↦ absurd (both_ways _ (ap accepted (cond-false {A = Reply} _ _ (refused NoSuchPartition) l)) h)
   ]
 
 module _ (t : Timetable) (rule : DispatchRule) (m : Module) (ok : Limits m) (still : NeverLate (plain t rule) m) where

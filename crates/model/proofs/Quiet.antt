@@ -1,7 +1,7 @@
 -- Under any dispatch rule: a machine that is never late need not look for late jobs.
 use Rattle.std.proofs.Common.{◌≡◌, ℕ, ◌+◌, ◌<◌, ◌≤◌, Bool, true, false, cond, ltb, List, [], ◌∷◌, ◌++◌, length, Some, None, Option, sym, refl, ap, ◌∙◌, subst, ap₂, inl, inr, arith}
 use mathlib.Core.Path.{fun_ext}
-use Rattle.std.proofs.lemmas.Bool.{and_parts, cases_Bool, cases_eq, cases_lt, cond_false, cond_true, le-ltb, leb-false, lt-ltb, ltb-true}
+use Rattle.std.proofs.lemmas.Bool.{and_parts, cases_Bool, cases_eq, cases_lt, cond-false, cond-true, le-ltb, leb-false, lt-ltb, ltb-true}
 use Rattle.model.specs.declared.call.Call.{Call}
 use Rattle.model.specs.declared.call.Request.{Request}
 use Rattle.model.specs.declared.job.Job.{Job}
@@ -69,7 +69,7 @@ module _ (t : Timetable) (rule : DispatchRule) (m : Module) (ok : Limits m) wher
 
     tick_tidy : st.now < last_tick → Tidy (tasks_of m p) (view p (after v m st tick))
     unfolding after ticked late
-    tick_tidy l = subst (Tidy (tasks_of m p)) (ap (view p) (sym (cond_true {A = MachineState} _ _ _ (lt-ltb st.now last_tick l)))) (record {
+    tick_tidy l = subst (Tidy (tasks_of m p)) (ap (view p) (sym (cond-true {A = MachineState} _ _ _ (lt-ltb st.now last_tick l)))) (record {
       shut = λ i k. shut_at i (late v p (tasks_of m p) st.now (st.partitions p).tasks i) (worked v p (tasks_of m p) st.now (st.partitions p).tasks i) (none_worked i (h.shut i k));
       young = λ i k b q. young_at i (late v p (tasks_of m p) st.now (st.partitions p).tasks i) (worked v p (tasks_of m p) st.now (st.partitions p).tasks i) b refl q;
     })
@@ -153,13 +153,13 @@ module _ (t : Timetable) (rule : DispatchRule) (m : Module) (ok : Limits m) wher
       one_task : (i : ℕ) →
           cond (late u p (tasks_of m p) st.now (st.partitions p).tasks i) (closed (worked u p (tasks_of m p) st.now (st.partitions p).tasks i)) (worked u p (tasks_of m p) st.now (st.partitions p).tasks i) ≡
           cond (late v p (tasks_of m p) st.now (st.partitions p).tasks i) (closed (worked v p (tasks_of m p) st.now (st.partitions p).tasks i)) (worked v p (tasks_of m p) st.now (st.partitions p).tasks i)
-      one_task i = cond_false _ _ _ (looked st p i) ∙ same_work st p i ∙ sym (cond_false _ _ _ (not_late st h l p i))
+      one_task i = cond-false _ _ _ (looked st p i) ∙ same_work st p i ∙ sym (cond-false _ _ _ (not_late st h l p i))
 
   same_after : (st : MachineState) (c : Call) → Quiet st → after u m st c ≡ after v m st c
   unfolding after
   same_after st tick h = elim (cases_lt st.now last_tick) [
     | inl l ↦ ap (λ (hs : ℕ → PartitionState). cond {A = MachineState} (ltb st.now last_tick) (record { now = st.now + 1; partitions = hs }) st) (fun_ext (same_ticked st h l))
-    | inr l ↦ cond_false _ _ _ (le-ltb _ _ l) ∙ sym (cond_false _ _ _ (le-ltb _ _ l))
+    | inr l ↦ cond-false _ _ _ (le-ltb _ _ l) ∙ sym (cond-false _ _ _ (le-ltb _ _ l))
   ]
   same_after st (call p a) h = refl
 

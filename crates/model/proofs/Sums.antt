@@ -1,7 +1,7 @@
 -- Sums over a range and over the tasks that go first, and quotients rounded up.
 use Rattle.std.proofs.Common.{◌≡◌, ℕ, zero, suc, ◌+◌, ◌*◌, ◌<◌, ◌≤◌, Bool, true, false, cond, eqb, refl, ap, ◌∙◌, inl, inr, le-div_iff_mul-le, arith}
 use native.Mathlib.Nat.{div-eq_of_lt-le}
-use Rattle.std.proofs.lemmas.Bool.{cases_eq, cond_false, cond_true, eq-eqb, ne_eqb}
+use Rattle.std.proofs.lemmas.Bool.{cases_eq, cond-false, cond-true, eq-eqb, ne_eqb}
 use Rattle.model.specs.InTime.{Partition, ceil, size, sum_before}
 use Rattle.model.specs.Ranges.{sum_below}
 
@@ -32,11 +32,11 @@ at k j = cond (eqb j k) 1 0
 
 pub at_same : (k : ℕ) → at k k ≡ 1
 unfolding at
-at_same k = cond_true (eqb k k) 1 0 (eq-eqb k k refl)
+at_same k = cond-true (eqb k k) 1 0 (eq-eqb k k refl)
 
 pub at_other : (k j : ℕ) → (j ≡ k → ⊥) → at k j ≡ 0
 unfolding at
-at_other k j h = cond_false (eqb j k) 1 0 (ne_eqb j k h)
+at_other k j h = cond-false (eqb j k) 1 0 (ne_eqb j k h)
 
 module _ (k : ℕ) (f : ℕ → ℕ) (one : f k ≡ 1) (other : (j : ℕ) → (j ≡ k → ⊥) → f j ≡ 0) where
   pub sum_one : (n : ℕ) → k < n → sum_below n f ≡ 1
@@ -76,7 +76,7 @@ module _ (p : Partition) (i : ℕ) where
   pub before_one : (k : ℕ) → k < size p → p.before k i ≡ true → sum_before p i (at k) ≡ 1
   unfolding sum_before
   before_one k l h =
-      sum_one k (λ j. cond (p.before j i) (at k j) 0) (cond_true _ _ _ h ∙ at_same k) (λ j d. ap (λ x. cond (p.before j i) x 0) (at_other k j d) ∙ pick_zero (p.before j i)) (size p) l
+      sum_one k (λ j. cond (p.before j i) (at k j) 0) (cond-true _ _ _ h ∙ at_same k) (λ j d. ap (λ x. cond (p.before j i) x 0) (at_other k j d) ∙ pick_zero (p.before j i)) (size p) l
 
   pub before_more : (e : ℕ → ℕ) (k : ℕ) → k < size p → p.before k i ≡ true → sum_before p i (λ j. e j + at k j) ≡ sum_before p i e + 1
   before_more e k l h = before_add e (at k) ∙ ap (λ x. sum_before p i e + x) (before_one k l h)

@@ -1,6 +1,6 @@
 -- Opened window lists, opened share cycles and shifts keep the law of timetables; windows lie one after another.
 use Rattle.std.proofs.Common.{◌≡◌, ℕ, ◌+◌, ◌-◌, ◌%◌, ◌<◌, ◌≤◌, Bool, true, false, cond, ◌&&◌, ltb, leb, ◌⊎◌, List, [], ◌∷◌, ◌++◌, length, Some, None, Option, sym, refl, ◌∙◌, inl, inr, mod-lt, arith}
-use Rattle.std.proofs.lemmas.Bool.{and_parts, cond_true, leb-true, ltb-true}
+use Rattle.std.proofs.lemmas.Bool.{and_parts, cond-true, leb-true, ltb-true}
 use Rattle.model.specs.declared.window.Window.{Window}
 use Rattle.model.specs.Answers.{Answer, and_then, granted, refused}
 use Rattle.model.specs.Timetables.{CoveredOnce, LawfulTimetable, Timetable, TimetablesAreLawful, bare_frame, covers, cycle_answer, opened, share_owner, share_timetable, shifted, window_owner, window_timetable}
@@ -105,7 +105,7 @@ module _ (f : ℕ) where
   next_begins : (i : ℕ) (v w : Window) (ws : List Window) → Allowed i (Some v) (w ∷ ws) → end_of v ≤ w.start
   next_begins i v w ws h =
       let g : Grants (window_answer overlap f i (Some v) w) = (both_grant (window_answer overlap f i (Some v) w) _ h).0 in
-      let e : window_answer overlap f i (Some v) w ≡ naming i (overlap v w) = cond_true _ _ _ (some_length i (Some v) w ws h) in
+      let e : window_answer overlap f i (Some v) w ≡ naming i (overlap v w) = cond-true _ _ _ (some_length i (Some v) w ws h) in
       leb-true _ _ (no_overlap (leb (end_of v) w.start) i (g.0, sym e ∙ g.1))
 
   later_begins : (i : ℕ) (v : Window) (between : List Window) (w : Window) (later : List Window) → Allowed i (Some v) (between ++ (w ∷ later)) → end_of v ≤ w.start

@@ -1,6 +1,6 @@
 -- Who runs in a tick, and what the tick does to a task.
 use Rattle.std.proofs.Common.{◌≡◌, ℕ, ◌+◌, ◌-◌, ◌<◌, Bool, true, false, cond, leb, is_some, Some, None, Option, sym, refl, ap, ◌∙◌, inl, inr, arith}
-use Rattle.std.proofs.lemmas.Bool.{both_ways, cases_eq, cond_false, cond_true, eq-eqb, leb-false, leb-true, ne_eqb}
+use Rattle.std.proofs.lemmas.Bool.{both_ways, cases_eq, cond-false, cond-true, eq-eqb, leb-false, leb-true, ne_eqb}
 use Rattle.model.specs.declared.job.Job.{Job}
 use Rattle.model.specs.declared.job.TaskState.{TaskState}
 use Rattle.model.specs.InTime.{C, Partition, size}
@@ -21,11 +21,11 @@ unfolding runner
 turn p ok st = go (p.owns st.now) refl
   where
     seen : (r : Option ℕ) → first_such p.before (is_open st.tasks) (size p) ≡ r → p.owns st.now ≡ true → Found p.before (is_open st.tasks) (size p) r → Turn p st
-    seen None e o h = all_closed h (cond_true _ _ _ o ∙ e)
-    seen (Some k) e o h = runs k o h (cond_true _ _ _ o ∙ e)
+    seen None e o h = all_closed h (cond-true _ _ _ o ∙ e)
+    seen (Some k) e o h = runs k o h (cond-true _ _ _ o ∙ e)
 
     go : (b : Bool) → p.owns st.now ≡ b → Turn p st
-    go false o = not_owned o (cond_false _ _ _ o)
+    go false o = not_owned o (cond-false _ _ _ o)
     go true o = seen (first_such p.before (is_open st.tasks) (size p)) refl o (found p.before (is_open st.tasks) (size p) ok.transitive ok.total (size p) (omega arith))
 
 -- what is left to run of a job of cost c
@@ -44,7 +44,7 @@ Unspent c o = (b : Job) → o ≡ Some b → b.ran < c
 module _ (p : Partition) (st : State) (j : ℕ) where
   pub rests : is_runner (runner p st) j ≡ false → after_work p st j ≡ st.tasks j
   unfolding after_work
-  rests h = cond_false _ _ _ h
+  rests h = cond-false _ _ _ h
 
   pub rests_none : runner p st ≡ None → after_work p st j ≡ st.tasks j
   unfolding is_runner
@@ -56,7 +56,7 @@ module _ (p : Partition) (st : State) (j : ℕ) where
 
   pub works : (k : ℕ) → runner p st ≡ Some k → j ≡ k → (after_work p st j).job ≡ one_on (C p j) (st.tasks j).job
   unfolding is_runner after_work
-  works k h d = ap (λ (x : TaskState). x.job) (cond_true _ _ _ (ap (λ r. is_runner r j) h ∙ eq-eqb j k d))
+  works k h d = ap (λ (x : TaskState). x.job) (cond-true _ _ _ (ap (λ r. is_runner r j) h ∙ eq-eqb j k d))
 
   same_last_at : (b : Bool) → (cond b (record { last = (st.tasks j).last; job = one_on (C p j) (st.tasks j).job }) (st.tasks j)).last ≡ (st.tasks j).last
   same_last_at true = refl
@@ -96,11 +96,11 @@ job_of x = x.job
 
 pub put_same : {A : Type 0} (xs : ℕ → A) (n : ℕ) (x : A) → put xs n x n ≡ x
 unfolding put
-put_same xs n x = cond_true _ _ _ (eq-eqb n n refl)
+put_same xs n x = cond-true _ _ _ (eq-eqb n n refl)
 
 pub put_other : {A : Type 0} (xs : ℕ → A) (n : ℕ) (x : A) (j : ℕ) → (j ≡ n → ⊥) → put xs n x j ≡ xs j
 unfolding put
-put_other xs n x j d = cond_false _ _ _ (ne_eqb j n d)
+put_other xs n x j d = cond-false _ _ _ (ne_eqb j n d)
 
 pub new_job : (now : ℕ) (b : Job) → (released now).job ≡ Some b → (b.released ≡ now) × (b.ran ≡ 0)
 unfolding released

@@ -1,5 +1,7 @@
 // The vocabulary that every crate shares: tasks and windows with their limits, jobs, calls and what they answer, and
 // verdicts; and the theorems on the definitions.
+#![tactic(auto)]
+
 mod call;
 mod entry;
 mod job;

@@ -1,5 +1,7 @@
 // Local orders: which of two tasks of a partition goes first. What stands above uses an order's meaning and laws alone, so
 // an airframe maker can add one.
+#![tactic(auto)]
+
 mod by_deadline;
 mod choice;
 mod listed;

@@ -1,4 +1,6 @@
 // plan: reads a tape on standard input and prints the shortest windows of its module, or one line for the refusal.
+#![tactic(auto)]
+
 use plan_listing::plan_text;
 use std::io;
 use std::io::Read;

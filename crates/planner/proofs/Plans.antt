@@ -1,7 +1,7 @@
 -- The plan by its cases, in the order of checking, and what a granted one leaves in the list.
 use Rattle.std.proofs.Common.{◌≡◌, ℕ, ◌<◌, ◌≤◌, Bool, true, false, cond, ◌&&◌, leb, List, [], length, take, drop, is_err, Ok, Err, sum, Result, sym, refl, ap, ◌∙◌, subst, arith}
 use Rattle.std.proofs.lemmas.List.{take_at}
-use Rattle.std.proofs.lemmas.Bool.{cond_false, cond_true, le-leb, lt-leb}
+use Rattle.std.proofs.lemmas.Bool.{cond-false, cond-true, le-leb, lt-leb}
 use Rattle.model.specs.declared.window.Window.{Window}
 use Rattle.model.specs.Answers.{Answer, and_then, granted, refused}
 use Rattle.model.specs.Modules.{Module, module_within}
@@ -39,11 +39,11 @@ module _ (order : Order) (m : Module) (f n : ℕ) (frame : Result (Unit {0}) Win
     plan_framed = ap (λ a. and_then a after_frame) (frame_good f frame good checked)
 
     pub plan_short : n < 8 → plan order m f n ≡ refused 63 []
-    plan_short l = plan_framed ∙ ap (λ a. and_then a (windows_for f (least_qs order f 0 m))) (cond_false (leb 8 n) (granted tt) (refused 63 []) (lt-leb 8 n l))
+    plan_short l = plan_framed ∙ ap (λ a. and_then a (windows_for f (least_qs order f 0 m))) (cond-false (leb 8 n) (granted tt) (refused 63 []) (lt-leb 8 n l))
 
     module _ (room : 8 ≤ n) where
       plan_roomy : plan order m f n ≡ windows_for f (least_qs order f 0 m)
-      plan_roomy = plan_framed ∙ ap (λ a. and_then a (windows_for f (least_qs order f 0 m))) (cond_true (leb 8 n) (granted tt) (refused 63 []) (le-leb 8 n room))
+      plan_roomy = plan_framed ∙ ap (λ a. and_then a (windows_for f (least_qs order f 0 m))) (cond-true (leb 8 n) (granted tt) (refused 63 []) (le-leb 8 n room))
 
       pub plan_infeasible : (k : ℕ) (vs : List ℕ) → least_qs order f 0 m ≡ refused k vs → plan order m f n ≡ refused k vs
       unfolding windows_for
@@ -52,11 +52,11 @@ module _ (order : Order) (m : Module) (f n : ℕ) (frame : Result (Unit {0}) Win
       module _ (qs : List ℕ) (are : least_qs order f 0 m ≡ granted qs) where
         pub plan_exceeds : false ≡ leb (sum qs) f → plan order m f n ≡ refused 62 []
         unfolding windows_for
-        plan_exceeds e = plan_roomy ∙ (ap (windows_for f) are ∙ cond_false (leb (sum qs) f) (granted (end_to_end 0 0 qs)) (refused 62 []) (sym e))
+        plan_exceeds e = plan_roomy ∙ (ap (windows_for f) are ∙ cond-false (leb (sum qs) f) (granted (end_to_end 0 0 qs)) (refused 62 []) (sym e))
 
         pub plan_granted : true ≡ leb (sum qs) f → plan order m f n ≡ granted (end_to_end 0 0 qs)
         unfolding windows_for
-        plan_granted e = plan_roomy ∙ (ap (windows_for f) are ∙ cond_true (leb (sum qs) f) (granted (end_to_end 0 0 qs)) (refused 62 []) (sym e))
+        plan_granted e = plan_roomy ∙ (ap (windows_for f) are ∙ cond-true (leb (sum qs) f) (granted (end_to_end 0 0 qs)) (refused 62 []) (sym e))
 
 -- What the promise comes to in each case.
 

@@ -1,7 +1,7 @@
 -- Windows from a list of q: how the answer grows partition by partition, and how the windows are written one after another.
 use Rattle.std.proofs.Common.{◌≡◌, ℕ, ◌+◌, ◌<◌, ◌≤◌, eqb, List, [], ◌∷◌, ◌++◌, length, drop, Some, None, sym, refl, ap, ◌∙◌}
 use Rattle.std.proofs.lemmas.List.{append_assoc, append-nil, at_drop_all, at_drop_more}
-use Rattle.std.proofs.lemmas.Bool.{cond_false, cond_true, eq-eqb, ne_eqb}
+use Rattle.std.proofs.lemmas.Bool.{cond-false, cond-true, eq-eqb, ne_eqb}
 use Rattle.model.specs.Answers.{Answer, granted, refused}
 use Rattle.model.specs.Modules.{Module, tasks_of}
 use Rattle.model.specs.Orders.{Order}
@@ -43,11 +43,11 @@ module _ (order : Order) (f : ℕ) (m : Module) (i : ℕ) where
 -- a window more, or none for a q of 0
 pub window_more : (p x q : ℕ) (qs : List ℕ) → (q ≡ 0 → ⊥) → end_to_end p x (q ∷ qs) ≡ record { partition = p; start = x; length = q } ∷ end_to_end (p + 1) (x + q) qs
 unfolding end_to_end
-window_more p x q qs d = cond_false (eqb q 0) _ _ (ne_eqb q 0 d)
+window_more p x q qs d = cond-false (eqb q 0) _ _ (ne_eqb q 0 d)
 
 pub window_none : (p x q : ℕ) (qs : List ℕ) → q ≡ 0 → end_to_end p x (q ∷ qs) ≡ end_to_end (p + 1) x qs
 unfolding end_to_end
-window_none p x q qs e = cond_true (eqb q 0) _ _ (eq-eqb q 0 e)
+window_none p x q qs e = cond-true (eqb q 0) _ _ (eq-eqb q 0 e)
 
 pub end_none : (p x : ℕ) (qs : List ℕ) → length qs ≤ p → end_to_end p x (drop p qs) ≡ []
 unfolding end_to_end

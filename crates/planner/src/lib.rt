@@ -1,4 +1,6 @@
 // The planner: the shortest windows with which every task of a draft is in time.
+#![tactic(auto)]
+
 mod plan;
 mod refusal;
 mod share;

@@ -1,5 +1,7 @@
 // Times the verdict and the shortest windows of the largest module, and the same tests by the definition read directly.
 // What was found goes to standard output, times to standard error.
+#![tactic(auto)]
+
 mod alternating;
 mod by_definition;
 mod modules;

@@ -1,5 +1,7 @@
 // What is promised of a running module, record by record, and what a verdict says of late jobs. Each theorem stands on
 // the contract of a function that does nothing else; other crates cite the lemmas of proofs/.
+#![tactic(auto)]
+
 ghost use Rattle.promises.specs.Promises.{ClearedKeepsPromises, VerdictIsExact};
 
 // Every flight record of an executive of a cleared module is as promised.

@@ -1,7 +1,7 @@
 -- Ranks that are apart tell the tasks of a partition apart, and one that is not new shows that they are not.
 use Rattle.std.specs.Prelude.{◌≡◌, ℕ, suc, ◌+◌, ◌<◌, Bool, true, false, not, ◌&&◌, List, [], ◌==◌, ◌≢◌, nat_lt, slice_index, slice_index_or, refl}
 use Rattle.std.proofs.Common.{ap, ◌∙◌, inl, inr, add-one, arith}
-use Rattle.std.proofs.lemmas.Bool.{and_from, both_ways, cases_Bool, cases_order, cond_true, eq-eqb, lt-ltb, not-true}
+use Rattle.std.proofs.lemmas.Bool.{and_from, both_ways, cases_Bool, cases_order, cond-true, eq-eqb, lt-ltb, not-true}
 use Rattle.model.specs.Ranges.{all_below}
 use Rattle.model.proofs.Ranges.{all_from}
 use Rattle.rank_table.specs.Apart.{all_apart, apart, apart_below, rank}
@@ -26,7 +26,7 @@ module _ (ranks : List (List ℕ)) (ok : all_apart ranks ≡ true) (p : ℕ) (fe
       both_ways _ (not-true _ (all_from (λ k. not (slice_index (slice_index_or ranks p []) i == slice_index (slice_index_or ranks p []) k)) i new j l)) (eq-eqb _ _ e)
 
   rank_is : (i : ℕ) → i < 16 → rank ranks p i ≡ slice_index (slice_index_or ranks p []) i
-  rank_is i l = cond_true _ _ _ (and_from (nat_lt p 8) (nat_lt i 16) (lt-ltb p 8 few) (lt-ltb i 16 l))
+  rank_is i l = cond-true _ _ _ (and_from (nat_lt p 8) (nat_lt i 16) (lt-ltb p 8 few) (lt-ltb i 16 l))
 
   pub same_rank : (i j : ℕ) → i < 16 → j < 16 → rank ranks p i ≡ rank ranks p j → i ≡ j
   same_rank i j l m e = elim (cases_order i j) [

@@ -1,4 +1,6 @@
 // The examples of the table of refusals, a line each: a window list, then faulty tapes as inspect prints them.
+#![tactic(auto)]
+
 use listing::listing;
 use model::Window;
 use std::io;

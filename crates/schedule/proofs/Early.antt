@@ -3,7 +3,7 @@
 use Rattle.std.proofs.Common.{◌≡◌, ℕ, zero, suc, ◌+◌, ◌%◌, ◌<◌, ◌≤◌, Bool, true, false, cond, ◌&&◌, ◌||◌, eqb, ltb, leb, ◌⊎◌, List, [], ◌∷◌, ◌++◌, length, get_or, None, Option, sym, refl, ap, ◌∙◌, subst, subst₂, inl, inr, arith}
 use native.Mathlib.Nat.{zero-mod}
 use Rattle.std.proofs.lemmas.List.{append_assoc, append-nil, get_or_at, length-append, length_push}
-use Rattle.std.proofs.lemmas.Bool.{and_from, and_left, and_right, both_ways, cases_Bool, cases_eq, cases_lt, cond_false, cond_true, eq-eqb, eqb-false, eqb-true, le-leb, le-ltb, lt-leb, lt-ltb, ne_eqb, or_from, or_left, or_right}
+use Rattle.std.proofs.lemmas.Bool.{and_from, and_left, and_right, both_ways, cases_Bool, cases_eq, cases_lt, cond-false, cond-true, eq-eqb, eqb-false, eqb-true, le-leb, le-ltb, lt-leb, lt-ltb, ne_eqb, or_from, or_left, or_right}
 use Rattle.model.specs.declared.call.Call.{Call}
 use Rattle.model.specs.declared.call.Call.TheVariants.{Tick as tick, Of as call}
 use Rattle.model.specs.declared.call.Request.TheVariants.{Release as release}
@@ -98,7 +98,7 @@ module _ (g : Engine) (m : Module) where
   release_reply : (st : MachineState) (p i : ℕ) → HasTask m p i →
       reply g m st (call p (release i)) ≡ cond (leb (ready (task_in m p i).period ((st.partitions p).tasks i).last) st.now) (answered (tasks_of m p) st.now (st.partitions p) (release i)) (refused TooSoon)
   unfolding reply refusal
-  release_reply st p i l = cond_true _ _ _ (lt-ltb p (length m) (has_part m p i l)) ∙ release_told _ _ _ (lt-ltb i (length (tasks_of m p)) l)
+  release_reply st p i l = cond-true _ _ _ (lt-ltb p (length m) (has_part m p i l)) ∙ release_told _ _ _ (lt-ltb i (length (tasks_of m p)) l)
 
   module _ (ok : Limits m) (q j u : ℕ) (st : MachineState) (l : HasTask m q j) (h : Stage q j u st) where
     abbrev T : ℕ
@@ -127,13 +127,13 @@ module _ (g : Engine) (m : Module) where
 
       granted_now : accepted (reply g m st (call q (release j))) ≡ true
       unfolding accepted answered
-      granted_now = ap accepted (release_reply st q j l ∙ cond_true _ _ _ may_now)
+      granted_now = ap accepted (release_reply st q j l ∙ cond-true _ _ _ may_now)
 
       has_q : has_partition m q ≡ true
       has_q = lt-ltb q (length m) (has_part m q j l)
 
       own_view : view q after_it ≡ with_tasks st.now (put (st.partitions q).tasks j (released st.now))
-      own_view = view_release g m q st j has_q ∙ cond_true _ _ _ (and_from _ _ (lt-ltb j (length (tasks_of m q)) l) may_now)
+      own_view = view_release g m q st j has_q ∙ cond-true _ _ _ (and_from _ _ (lt-ltb j (length (tasks_of m q)) l) may_now)
 
       fresh : Due u true q j (released st.now).last
       unfolding released ready
@@ -162,8 +162,8 @@ module _ (g : Engine) (m : Module) where
     task_goes : Goes g m Fine st (release_at u q j (task_in m q j)) (Stage q (j + 1) u)
     unfolding flown
     task_goes = elim (cases_Bool (eqb (u % T) 0)) [
-      | inl e ↦ subst (λ cs. Goes g m Fine st cs (Stage q (j + 1) u)) (sym (cond_true _ _ _ e)) (released_goes (eqb-true _ _ e))
-      | inr e ↦ subst (λ cs. Goes g m Fine st cs (Stage q (j + 1) u)) (sym (cond_false _ _ _ e)) (tt, record { now_is = h.now_is; due = kept (eqb-false _ _ e) })
+      | inl e ↦ subst (λ cs. Goes g m Fine st cs (Stage q (j + 1) u)) (sym (cond-true _ _ _ e)) (released_goes (eqb-true _ _ e))
+      | inr e ↦ subst (λ cs. Goes g m Fine st cs (Stage q (j + 1) u)) (sym (cond-false _ _ _ e)) (tt, record { now_is = h.now_is; due = kept (eqb-false _ _ e) })
     ]
 
   module _ (ok : Limits m) (u : ℕ) where
@@ -193,16 +193,16 @@ module _ (g : Engine) (m : Module) where
       tick_last : (p i : ℕ) → (((after g m st tick).partitions p).tasks i).last ≡ ((st.partitions p).tasks i).last
       unfolding after ticked worked closed
       tick_last p i =
-          ap (λ (x : MachineState). ((x.partitions p).tasks i).last) (cond_true {A = MachineState} _ _ _ (lt-ltb _ _ l)) ∙
+          ap (λ (x : MachineState). ((x.partitions p).tasks i).last) (cond-true {A = MachineState} _ _ _ (lt-ltb _ _ l)) ∙
           cond_last (late g p (tasks_of m p) st.now (st.partitions p).tasks i) _ (worked g p (tasks_of m p) st.now (st.partitions p).tasks i) refl ∙ cond_last _ _ ((st.partitions p).tasks i) refl
 
       tick_now : (after g m st tick).now ≡ st.now + 1
       unfolding after
-      tick_now = ap (λ (x : MachineState). x.now) (cond_true {A = MachineState} _ _ _ (lt-ltb _ _ l))
+      tick_now = ap (λ (x : MachineState). x.now) (cond-true {A = MachineState} _ _ _ (lt-ltb _ _ l))
 
       tick_granted : accepted (reply g m st tick) ≡ true
       unfolding reply
-      tick_granted = ap accepted (cond_true _ _ _ (lt-ltb _ _ l)) ∙ tick_accepted g m st _
+      tick_granted = ap accepted (cond-true _ _ _ (lt-ltb _ _ l)) ∙ tick_accepted g m st _
 
     tick_goes : u < last_tick → (st : MachineState) → Stage (length m) 0 u st → Goes g m Fine st (tick ∷ []) (Stage 0 0 (suc u))
     unfolding flown
@@ -216,7 +216,7 @@ module _ (g : Engine) (m : Module) where
             record {
               kind = inl refl;
               granted = tick_granted st in_time;
-              none_left = λ e p i k. release_reply st p i k ∙ cond_false _ _ _ (lt-leb (ready (task_in m p i).period ((st.partitions p).tasks i).last) st.now (omega (arith, (ahead p i k).low)));
+              none_left = λ e p i k. release_reply st p i k ∙ cond-false _ _ _ (lt-leb (ready (task_in m p i).period ((st.partitions p).tasks i).last) st.now (omega (arith, (ahead p i k).low)));
             },
             tt,
           ),

@@ -1,7 +1,7 @@
 -- A tape without fault is the tape of what it holds.
 use Rattle.std.proofs.Common.{◌≡◌, ℕ, zero, suc, ◌+◌, ◌-◌, ◌<◌, ◌≤◌, Bool, true, false, cond, eqb, leb, List, ◌++◌, length, get_or, drop, Some, None, Ok, Err, Option, Result, sym, refl, ap, ◌∙◌, subst, inl, inr, arith}
 use Rattle.std.proofs.lemmas.List.{get_or-append-add}
-use Rattle.std.proofs.lemmas.Bool.{cond_both, cond_true, cond_false, cases_Bool, eqb-true, leb-true}
+use Rattle.std.proofs.lemmas.Bool.{cond_both, cond-true, cond-false, cases_Bool, eqb-true, leb-true}
 use Rattle.model.specs.Answers.{granted}
 use Rattle.model.specs.WindowLists.{list_answer, overlap}
 use Rattle.tape.specs.declared.command.Command.{Command}
@@ -79,8 +79,8 @@ module _ (tape : List ℕ) (t : Contents) where
         let rest = p.1 in
         let then = p.2 in
         elim (cases_Bool (is_end c)) [
-          | inl end ↦ at_end c rest then q end (sym (cond_true (is_end c) _ _ end) ∙ d)
-          | inr on ↦ go then rest (standing_next tape l xs at c rest then (front c rest then q) q on) (bytes_after xs fits c rest (front c rest then q)) (sym (cond_false (is_end c) _ _ on) ∙ d)
+          | inl end ↦ at_end c rest then q end (sym (cond-true (is_end c) _ _ end) ∙ d)
+          | inr on ↦ go then rest (standing_next tape l xs at c rest then (front c rest then q) q on) (bytes_after xs fits c rest (front c rest then q)) (sym (cond-false (is_end c) _ _ on) ∙ d)
         ]
 
   again_from : (most : ℕ) (l : Progress) (xs : List ℕ) → Standing tape l xs → Bytes xs → decode_from most (length tape) l xs ≡ done t → Holds

@@ -1,7 +1,7 @@
 -- The bytes of a command, read again.
 use Rattle.std.proofs.Common.{◌≡◌, ℕ, ◌<◌, Bool, true, false, eqb, List, ◌++◌, length, get_or, Some, Ok, Err, sym, refl, ap, ◌∙◌, arith, rules}
 use native.Mathlib.Nat.{div-add-mod}
-use Rattle.std.proofs.lemmas.Bool.{cond_false, ne_eqb}
+use Rattle.std.proofs.lemmas.Bool.{cond-false, ne_eqb}
 use Rattle.tape.specs.declared.command.Command.{Command}
 use Rattle.tape.specs.declared.command.Command.TheVariants.{Partition, Task, Frame, Window, End}
 use Rattle.tape.specs.declared.command.Turn.{Turn}
@@ -25,7 +25,7 @@ reads_back End more = search rules
 
 command_some : (t : Turn) (xs : List ℕ) → 0 < length xs → command t xs ≡ in_turn (admits t (get_or xs 0 0)) (operands xs)
 command_some t xs h =
-    cond_false (eqb (length xs) 0) (Err 71) (in_turn (admits t (get_or xs 0 0)) (operands xs)) (ne_eqb (length xs) 0 (λ e. omega arith))
+    cond-false (eqb (length xs) 0) (Err 71) (in_turn (admits t (get_or xs 0 0)) (operands xs)) (ne_eqb (length xs) 0 (λ e. omega arith))
 
 admitted : (t : Turn) (c : Command) (more : List ℕ) → (0 < length (bytes c ++ more)) × (admits t (get_or (bytes c ++ more) 0 0) ≡ Some (follows t c))
 admitted t Partition more = (omega arith, refl)

@@ -1,7 +1,7 @@
 -- The first faulty command decides.
 use Rattle.std.proofs.Common.{◌≡◌, ℕ, zero, suc, ◌+◌, ◌-◌, ◌≤◌, true, false, cond, eqb, ◌⊎◌, List, [], ◌∷◌, ◌++◌, length, Ok, Err, Result, sym, refl, ap, ◌∙◌, subst, inl, inr, arith}
 use Rattle.std.proofs.lemmas.List.{length-append}
-use Rattle.std.proofs.lemmas.Bool.{cond_both, cond_true, cond_false, cases_Bool, eqb-false}
+use Rattle.std.proofs.lemmas.Bool.{cond_both, cond-true, cond-false, cases_Bool, eqb-false}
 use Rattle.std.specs.List.{flat_map}
 use Rattle.tape.specs.declared.command.Command.{Command}
 use Rattle.tape.specs.declared.command.Command.TheVariants.{End}
@@ -88,8 +88,8 @@ module _ (tape : List ℕ) (n : ℕ) (vs : List ℕ) (y : Layer) (o : ℕ) where
         let then = p.2 in
         let f = front c rest then q in
         elim (cases_Bool (is_end c)) [
-          | inl end ↦ at_end c rest then q end (sym (cond_true (is_end c) _ _ end) ∙ d)
-          | inr on ↦ go then rest (omega (arith, bytes_some c rest, ap length f)) (standing_next tape l xs at c rest then f q on) (bytes_after xs fits c rest f) (one_more c rest then q on) (sym (cond_false (is_end c) _ _ on) ∙ d)
+          | inl end ↦ at_end c rest then q end (sym (cond-true (is_end c) _ _ end) ∙ d)
+          | inr on ↦ go then rest (omega (arith, bytes_some c rest, ap length f)) (standing_next tape l xs at c rest then f q on) (bytes_after xs fits c rest f) (one_more c rest then q on) (sym (cond-false (is_end c) _ _ on) ∙ d)
         ]
 
   fault_from : (most : ℕ) (l : Progress) (xs : List ℕ) → length xs ≤ most → Standing tape l xs → Bytes xs → Plays nothing_read (so_far l) l → decode_from most (length tape) l xs ≡ faulty n vs y o → Found

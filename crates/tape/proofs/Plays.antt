@@ -1,8 +1,8 @@
 -- A module's commands are obeyed one after another, and leave the module.
 use Rattle.std.proofs.Common.{◌≡◌, ℕ, ◌+◌, ◌-◌, ◌<◌, ◌≤◌, true, ltb, leb, List, [], ◌∷◌, ◌++◌, map, length, get_or, Some, Ok, sym, refl, ap, ◌∙◌, subst, arith}
 use Rattle.std.proofs.lemmas.List.{append_assoc, append-nil, length-append, get_or_at}
-use Rattle.std.proofs.lemmas.Option.{slice_get_get_or}
-use Rattle.std.proofs.lemmas.Bool.{and_parts, cond_true, lt-ltb, le-leb, leb-true}
+use Rattle.std.proofs.lemmas.Option.{slice_get-get_or}
+use Rattle.std.proofs.lemmas.Bool.{and_parts, cond-true, lt-ltb, le-leb, leb-true}
 use Rattle.std.specs.List.{flat_map}
 use Rattle.model.specs.declared.task.Task.{Task as ModelTask}
 use Rattle.model.specs.declared.window.Window.{Window as ModelWindow}
@@ -41,9 +41,9 @@ newest_answer : (m : Module) (ds : List ModelTask) (k : ModelTask) → length ds
 newest_answer m ds k h w =
     let n : length m ≡ newest (m ++ (ds ∷ [])) = omega (arith, length-append m (ds ∷ [])) in
     let own : get_or (m ++ (ds ∷ [])) (newest (m ++ (ds ∷ []))) [] ≡ ds = get_or_at m ds [] [] (newest (m ++ (ds ∷ []))) n in
-    cond_true (ltb (newest (m ++ (ds ∷ []))) (length (m ++ (ds ∷ [])))) _ _ (lt-ltb (newest (m ++ (ds ∷ []))) (length (m ++ (ds ∷ []))) (omega (arith, length-append m (ds ∷ []))))
+    cond-true (ltb (newest (m ++ (ds ∷ []))) (length (m ++ (ds ∷ [])))) _ _ (lt-ltb (newest (m ++ (ds ∷ []))) (length (m ++ (ds ∷ []))) (omega (arith, length-append m (ds ∷ []))))
     ∙ (ap (λ ks. task_answer_in ks k) own
-    ∙ (cond_true (ltb (length ds) 16) _ _ (lt-ltb (length ds) 16 h) ∙ cond_true (within_limits k) _ _ w))
+    ∙ (cond-true (ltb (length ds) 16) _ _ (lt-ltb (length ds) 16 h) ∙ cond-true (within_limits k) _ _ w))
 
 abbrev after_tasks : Turn → List ModelTask → Turn
 after_tasks t [] = t
@@ -70,7 +70,7 @@ module _ (f : ℕ) (ws : List ModelWindow) where
   still_before t (k ∷ ks) b = still_before AfterTask ks refl
 
   new_partition : (m : Module) → length m < 8 → partition_answer m ≡ granted (length m)
-  new_partition m h = cond_true (ltb (length m) 8) _ _ (lt-ltb (length m) 8 h)
+  new_partition m h = cond-true (ltb (length m) 8) _ _ (lt-ltb (length m) 8 h)
 
   abbrev pub after_partitions : Turn → Module → Turn
   after_partitions t [] = t
@@ -99,14 +99,14 @@ last_is : (ws : List ModelWindow) (w : ModelWindow) → last_of (ws ++ (w ∷ []
 last_is ws w =
     let n = length-append ws (w ∷ []) in
     let k : length ws ≡ length (ws ++ (w ∷ [])) - 1 = omega arith in
-    slice_get_get_or (ws ++ (w ∷ [])) (length (ws ++ (w ∷ [])) - 1) w (omega arith) ∙ ap Some (get_or_at ws w [] w (length (ws ++ (w ∷ [])) - 1) k)
+    slice_get-get_or (ws ++ (w ∷ [])) (length (ws ++ (w ∷ [])) - 1) w (omega arith) ∙ ap Some (get_or_at ws w [] w (length (ws ++ (w ∷ [])) - 1) k)
 
 module _ (m : Module) (f : ℕ) where
   pub windows_play : (had ws : List ModelWindow) → length had + length ws ≤ 64 → windows_answer overlap f (length had) (last_of had) ws ≡ granted tt → Plays (reads m f had AfterFrame) (map Window ws) (reads m f (had ++ ws) AfterFrame)
   windows_play had [] h a = ap (λ ws. reads m f ws AfterFrame) (sym (append-nil had))
   windows_play had (w ∷ ws) h a =
       let both = both_granted (window_answer overlap f (length had) (last_of had) w) (windows_answer overlap f (length had + 1) (Some w) ws) tt a in
-      let count : count_answer (length had + 1) ≡ granted tt = cond_true (leb (length had + 1) 64) _ _ (le-leb (length had + 1) 64 (omega arith)) in
+      let count : count_answer (length had + 1) ≡ granted tt = cond-true (leb (length had + 1) 64) _ _ (le-leb (length had + 1) 64 (omega arith)) in
       let n : length had + 1 ≡ length (had ++ (w ∷ [])) = sym (length-append had (w ∷ [])) in
       let here : windows_answer overlap f (length (had ++ (w ∷ []))) (last_of (had ++ (w ∷ []))) ws ≡ granted tt =
       ap (λ v. windows_answer overlap f (length (had ++ (w ∷ []))) v ws) (last_is had w) ∙ (ap (λ i. windows_answer overlap f i (Some w) ws) (sym n) ∙ both.1)

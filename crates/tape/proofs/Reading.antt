@@ -1,7 +1,7 @@
 -- One command after another: what is left of a tape decides what it gives.
 use Rattle.std.proofs.Common.{◌≡◌, ℕ, zero, suc, ◌-◌, ◌<◌, ◌≤◌, true, false, cond, eqb, leb, List, [], ◌∷◌, ◌++◌, length, get_or, None, Ok, Err, Result, sym, refl, ap, ◌∙◌, subst, arith}
 use Rattle.std.proofs.lemmas.List.{append_assoc, append-nil, length-append}
-use Rattle.std.proofs.lemmas.Bool.{cond_true, cond_false, eq-eqb, le-leb, false≢true}
+use Rattle.std.proofs.lemmas.Bool.{cond-true, cond-false, eq-eqb, le-leb, false≢true}
 use Rattle.std.specs.List.{flat_map}
 use Rattle.model.specs.declared.window.Window.{Window as ModelWindow}
 use Rattle.model.specs.Answers.{granted}
@@ -51,7 +51,7 @@ module _ (l : Progress) (xs : List ℕ) (c : Command) (rest : List ℕ) (then : 
   next_obeyed = (parts l c rest then (command l.turn xs) r).1
 
 pub next_none : (l : Progress) (xs : List ℕ) → length xs ≡ 0 → next l xs ≡ Err (71, [], Tape)
-next_none l xs h = ap (after_bytes l) (cond_true (eqb (length xs) 0) (Err 71) (in_turn (admits l.turn (get_or xs 0 0)) (operands xs)) (eq-eqb (length xs) 0 h))
+next_none l xs h = ap (after_bytes l) (cond-true (eqb (length xs) 0) (Err 71) (in_turn (admits l.turn (get_or xs 0 0)) (operands xs)) (eq-eqb (length xs) 0 h))
 
 pub bytes_some : (c : Command) (more : List ℕ) → length more < length (bytes c ++ more)
 bytes_some Partition more = omega arith
@@ -107,7 +107,7 @@ none_left (x ∷ xs) e = absurd (omega arith)
 
 list_accepted : (f : ℕ) (ws : List ModelWindow) → length ws ≤ 64 → (frame_answer f ≡ granted tt) × (windows_answer overlap f 0 None ws ≡ granted tt) → list_answer overlap f ws ≡ granted tt
 list_accepted f ws h a =
-    let count : count_answer (length ws) ≡ granted tt = cond_true (leb (length ws) 64) _ _ (le-leb (length ws) 64 h) in
+    let count : count_answer (length ws) ≡ granted tt = cond-true (leb (length ws) 64) _ _ (le-leb (length ws) 64 h) in
     list_by_windows overlap f ws (sym a.0) (sym count) ∙ a.1
 
 all_commands : (m : Module) (f : ℕ) (ws : List ModelWindow) (t : Turn) → after_frame t ≡ true → commands m f ws ≡ (flat_map partition_commands m ++ framed t f ws) ++ (End ∷ [])
@@ -138,13 +138,13 @@ module _ (tape : List ℕ) (l : Progress) (xs : List ℕ) (at : Standing tape l 
           orderly = a.orderly;
           few = a.few;
           accepted = a.accepted;
-          decides = (d.0, d.1, sym (cond_false (is_end c) _ _ no_end) ∙ (sym d.2 ∙ at.decides.2));
+          decides = (d.0, d.1, sym (cond-false (is_end c) _ _ no_end) ∙ (sym d.2 ∙ at.decides.2));
         }
 
     pub standing_end : is_end c ≡ true → decode tape ≡ ended (length tape) then rest
     standing_end end =
         let d = decode_next (length tape) l xs c rest then e r at.decides.0 at.decides.1 in
-        sym at.decides.2 ∙ (d.2 ∙ cond_true (is_end c) _ _ end)
+        sym at.decides.2 ∙ (d.2 ∙ cond-true (is_end c) _ _ end)
 
     -- at the end, what has been read is the tape
     pub standing_again : is_end c ≡ true → length rest ≡ 0 → (encode then.partitions then.frame then.windows ≡ tape) × (length then.windows ≤ 64) × (list_answer overlap then.frame then.windows ≡ granted tt)

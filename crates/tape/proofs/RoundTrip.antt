@@ -1,7 +1,7 @@
 -- The round trip, both ways.
 use Rattle.std.proofs.Common.{◌≡◌, ℕ, suc, ◌+◌, ◌-◌, ◌≤◌, true, cond, leb, List, [], ◌∷◌, ◌++◌, map, length, Some, None, Ok, sym, refl, ap, ◌∙◌, zero-add, arith}
 use Rattle.std.proofs.lemmas.List.{append_assoc, length-append}
-use Rattle.std.proofs.lemmas.Bool.{and_parts, cond_false, leb-true}
+use Rattle.std.proofs.lemmas.Bool.{and_parts, cond-false, leb-true}
 use Rattle.std.specs.List.{flat_map}
 use Rattle.model.specs.declared.window.Window.{Window as ModelWindow}
 use Rattle.model.specs.Answers.{granted, and_then}
@@ -40,7 +40,7 @@ decode_plays (c ∷ cs) l then p most n more =
     ap (λ k. decode_from k n l xs) k
     ∙ (ap (decode_from (suc (length cs + most)) n l) apart
     ∙ (ap (λ r. after_next (n - length (bytes c ++ rest)) r (λ c rest then. cond (is_end c) (ended n then rest) (decode_from (length cs + most) n then rest))) (next_there l p.2.0 c rest p.0 p.2.1)
-    ∙ (cond_false (is_end c) _ _ p.1
+    ∙ (cond-false (is_end c) _ _ p.1
     ∙ decode_plays cs p.2.0 then p.2.2 most n more)))
 
 -- a command has a byte at least

@@ -1,7 +1,7 @@
 -- The commands that have been read of a tape: each command that is obeyed adds itself.
 use Rattle.std.proofs.Common.{◌≡◌, ℕ, ◌+◌, ◌-◌, ◌<◌, ◌≤◌, true, false, leb, List, [], ◌∷◌, ◌++◌, map, length, set, Some, None, Ok, sym, refl, ap, ◌∙◌, subst, inl, inr, zero-add, arith}
 use Rattle.std.proofs.lemmas.List.{append_assoc, append-nil, length-append, length-set, map_push, set_at, get_or_at}
-use Rattle.std.proofs.lemmas.Bool.{cond_false, leb-true, cases_Bool, false≢true, true≢false}
+use Rattle.std.proofs.lemmas.Bool.{cond-false, leb-true, cases_Bool, false≢true, true≢false}
 use Rattle.std.specs.List.{flat_map, slice_get}
 use Rattle.model.specs.declared.task.Task.{Task as ModelTask}
 use Rattle.model.specs.declared.window.Window.{Window as ModelWindow}
@@ -120,7 +120,7 @@ count_kept n b v e =
     elim (cases_Bool (leb n 64)) [
       | inl l ↦ leb-true n 64 l
       | inr l ↦
-          let q : count_answer n ≡ refused 52 [] = cond_false _ _ _ l in
+          let q : count_answer n ≡ refused 52 [] = cond-false _ _ _ l in
           let c : and_then (count_answer n) b ≡ refused 52 [] = ap (λ a. and_then a b) q in
           let z : ◌≡◌ {A = ℕ} 0 1 = cc in
           absurd (omega arith)

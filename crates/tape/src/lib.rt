@@ -1,4 +1,6 @@
 // Load tapes: the commands, their bytes and their faults, and the definitions of reading and writing.
+#![tactic(auto)]
+
 mod command;
 mod commanded;
 mod fault;

@@ -1,7 +1,7 @@
 -- What a tape gives whose end has been read.
 use Rattle.std.proofs.Common.{◌≡◌, ℕ, ◌+◌, ◌-◌, ◌≤◌, true, false, eqb, List, [], ◌++◌, length, get_or, IfOk, Some, None, Ok, Err, vec_items, vec_len, Option, Result, sym, ap, ◌∙◌, add-zero, arith, MatchResult}
 use Rattle.std.proofs.lemmas.List.{get_or-append-add}
-use Rattle.std.proofs.lemmas.Bool.{cond_both, cond_true, cond_false, eqb-true}
+use Rattle.std.proofs.lemmas.Bool.{cond_both, cond-true, cond-false, eqb-true}
 use Rattle.std.specs.List.{flat_map}
 use Rattle.model.specs.Answers.{Gives, granted}
 use Rattle.model.specs.WindowLists.{list_answer, overlap}
@@ -42,7 +42,7 @@ module _ (tape : List ℕ) (l : Progress) (xs : List ℕ) (at : Standing tape l 
   nothing_follows none =
       let again = standing_again tape l xs at c rest (progress load) e r end (eqb-true (length rest) 0 none) in
       record {
-        answer = standing_end tape l xs at c rest (progress load) e r end ∙ cond_true (eqb (length rest) 0) _ _ none;
+        answer = standing_end tape l xs at c rest (progress load) e r end ∙ cond-true (eqb (length rest) 0) _ _ none;
         again = again.0;
         accepted = again.2;
         few = omega (arith, again.1, load.windows.ok.0);
@@ -53,7 +53,7 @@ module _ (tape : List ℕ) (l : Progress) (xs : List ℕ) (at : Standing tape l 
       let o = standing_offset tape l xs at w in
       let here : length tape - length xs + 1 ≡ length tape - length rest = omega (arith, one_byte, o.2) in
       record {
-        answer = ap (faulty 74 [] layer.Tape) here ∙ sym (standing_end tape l xs at c rest (progress load) e r end ∙ cond_false (eqb (length rest) 0) _ _ some);
+        answer = ap (faulty 74 [] layer.Tape) here ∙ sym (standing_end tape l xs at c rest (progress load) e r end ∙ cond-false (eqb (length rest) 0) _ _ some);
         again = tt;
         accepted = tt;
         few = tt;

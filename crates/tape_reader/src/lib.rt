@@ -1,4 +1,6 @@
 // The reader of load tapes.
+#![tactic(auto)]
+
 mod load;
 mod reader;
 

@@ -1,4 +1,6 @@
 // The writer of load tapes.
+#![tactic(auto)]
+
 mod writer;
 
 pub use writer::{WriteRefusal, write};

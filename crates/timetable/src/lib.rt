@@ -1,5 +1,7 @@
 // Timetables: who owns each place of a frame that repeats. What stands above uses a timetable's meaning and law alone, so
 // an airframe maker can add one.
+#![tactic(auto)]
+
 mod share_cycle;
 mod shift;
 mod stretch;

@@ -1,4 +1,6 @@
 // Window lists: the check that only looks.
+#![tactic(auto)]
+
 mod check;
 mod refusal;
 

@@ -1,5 +1,5 @@
 use Rattle.std.proofs.Common.{◌-◌, ◌<◌, ◌≤◌, length, sym, rules}
-use Rattle.std.proofs.lemmas.Option.{slice_get_past, slice_get_get_or}
+use Rattle.std.proofs.lemmas.Option.{slice_get_past, slice_get-get_or}
 use Rattle.tape_reader.proofs.load.last_of.Goals as goal
 
 pub returns-in-empty : goal.returns-in-empty
@@ -12,4 +12,4 @@ pub returns-in-len1-up : goal.returns-in-len1-up
 returns-in-len1-up c =
     let ws = c.args.windows.now in
     let h : length ws - 1 < length ws = search rules in
-    sym (slice_get_get_or ws (length ws - 1) _ h)
+    sym (slice_get-get_or ws (length ws - 1) _ h)

@@ -1,6 +1,6 @@
 use Rattle.std.proofs.Common.{◌≡◌, ℕ, ◌≤◌, cond, leb, List, [], ◌++◌, length, take, drop, sym, ap, ◌∙◌, arith}
 use Rattle.std.proofs.lemmas.List.{take_at}
-use Rattle.std.proofs.lemmas.Bool.{cond_true, le-leb}
+use Rattle.std.proofs.lemmas.Bool.{cond-true, le-leb}
 use Rattle.model.specs.declared.window.Window.{Window}
 use Rattle.model.specs.Answers.{Answer, granted, refused, and_then}
 use Rattle.draft.specs.Drafts.{module_of}
@@ -33,7 +33,7 @@ returns c =
     record {
       answer =
           ap granted n
-          ∙ (sym (cond_true (leb (length tape) (length was)) _ _ (le-leb (length tape) (length was) fits))
+          ∙ (sym (cond-true (leb (length tape) (length was)) _ _ (le-leb (length tape) (length was) fits))
           ∙ ap (λ a. and_then a fit) granted-list);
       after = c.put-tape.ensures.after ∙ ap (λ k. tape ++ drop k was) n;
       back = ap decode front ∙ reads_back (module_of d) f ws (draft_within d) (sym granted-list);

@@ -18,9 +18,9 @@ returns-in-err-check-window c =
 
 pub loop-i-preserved : goal.loop-i-preserved
 loop-i-preserved c =
-    sym (windows_go_on overlap c.args.frame c.loop-i.previous c.args.windows.now c.loop-i.i _ c.loop-i-test.true c.in-ok-check-window.ensures) ∙ c.loop-i.invariant
+    sym (windows_go_on overlap c.args.frame c.loop-i.previous c.args.windows.now c.loop-i.i _ c.loop-i-test.true c.in_ok-check_window.ensures) ∙ c.loop-i.invariant
 
 pub returns : goal.returns
 returns c =
     sym (at_drop_all (windows_answer overlap c.args.frame c.loop-i.i c.loop-i.previous) c.args.windows.now c.loop-i.i c.loop-i-test.false)
-    ∙ (c.loop-i.invariant ∙ sym (list_by_windows overlap c.args.frame c.args.windows.now c.in-ok-check-frame.ensures c.in-ok-check-count.ensures))
+    ∙ (c.loop-i.invariant ∙ sym (list_by_windows overlap c.args.frame c.args.windows.now c.in_ok-check_frame.ensures c.in_ok-check_count.ensures))

@@ -1,7 +1,7 @@
 use Rattle.std.proofs.Common.{◌≡◌, ℕ, ◌%◌, ◌<◌, true, false, ◌&&◌, ltb, leb, get_or, Some, None, sym, refl, ap, ◌∙◌, mod-lt, arith}
 use mathlib.Core.Path.{fun_ext}
 use lib.ListN.{length-replicate}
-use Rattle.std.proofs.lemmas.Bool.{and_from, cond_true, le-leb}
+use Rattle.std.proofs.lemmas.Bool.{and_from, cond-true, le-leb}
 use Rattle.model.specs.Planning.{first_places}
 use Rattle.analysis.proofs.Filling.{fill}
 use Rattle.analysis.proofs.places.Places.first.Goals as goal
@@ -21,4 +21,4 @@ returns c =
     let within : (leb 1 f && leb f 1024) ≡ true = and_from (leb 1 f) (leb f 1024) (le-leb 1 f c.if-frame-lt1.false) (le-leb f 1024 c.if-frame-gt1024.false) in
     let owned : (u : ℕ) → get_or c.loop-place.owned (u % f) false ≡ ltb (u % f) c.args.count =
     λ u. c.loop-place.invariant.filled (u % f) (let l : u % f < f = mod-lt u c.if-frame-lt1.false in omega arith) in
-    ap Some (fun_ext owned) ∙ sym (cond_true (leb 1 f && leb f 1024) (Some (first_places f c.args.count)) None within)
+    ap Some (fun_ext owned) ∙ sym (cond-true (leb 1 f && leb f 1024) (Some (first_places f c.args.count)) None within)

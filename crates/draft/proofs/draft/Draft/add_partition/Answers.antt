@@ -22,7 +22,7 @@ returns c =
     record {
       answer = ap granted (c.len-partition.ensures ∙ sym n) ∙ cond_below (length (module_of d)) 8 (granted (length (module_of d))) (refused 11 []) (omega arith);
       after =
-          ap (map tasks_in) c.in-ok-push.ensures.items
+          ap (map tasks_in) c.in_ok-push.ensures.items
           ∙ (map_push tasks_in (vec_items d.partitions) _ ∙ ap (λ ks. module_of d ++ (ks ∷ [])) c.new-tasks.ensures.items);
     }
 

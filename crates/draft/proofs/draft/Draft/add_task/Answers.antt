@@ -19,8 +19,8 @@ returns c =
     let l = v.ok.0 in
     let h : c.args.partition < length (vec_items v) = omega arith in
     let k = task c.args.cost c.args.period c.args.deadline in
-    let old = c.index-mut.result.now in
+    let old = c.index_mut.result.now in
     record {
-      answer = task_answer_at (vec_items v) c.args.partition old h c.index-mut.ensures.value k (told c.add.result) c.add.ensures.answer;
-      after = module_after (vec_items v) c.args.partition old h c.index-mut.ensures.value c.add.new.self k (told c.add.result) c.add.ensures.after;
+      answer = task_answer_at (vec_items v) c.args.partition old h c.index_mut.ensures.value k (told c.add.result) c.add.ensures.answer;
+      after = module_after (vec_items v) c.args.partition old h c.index_mut.ensures.value c.add.new.self k (told c.add.result) c.add.ensures.after;
     }

@@ -8,7 +8,7 @@ pub returns-then-partition-len : goal.returns-then-partition-len
 returns-then-partition-len c =
     let v = c.args.self.now.partitions in
     let l = v.ok.0 in
-    c.as-slice.ensures.value ∙ sym (tasks_at (vec_items v) c.args.partition c.index.result.now (omega arith) c.index.ensures)
+    c.as_slice.ensures.value ∙ sym (tasks_at (vec_items v) c.args.partition c.index.result.now (omega arith) c.index.ensures)
 
 pub returns-else-partition-len : goal.returns-else-partition-len
 returns-else-partition-len c =

@@ -1,5 +1,5 @@
 use Rattle.std.proofs.Common.{[], get_or, sym, refl}
-use Rattle.std.proofs.lemmas.Bool.{cond_false}
+use Rattle.std.proofs.lemmas.Bool.{cond-false}
 use Rattle.model.specs.Ranges.{all_below}
 use Rattle.rank_table.specs.Apart.{apart}
 use Rattle.rank_table.specs.ApartLemmas.{all_more, not_all}
@@ -11,7 +11,7 @@ loop-p-init c = refl
 
 pub returns-then-not-are-apart : goal.returns-then-not-are-apart
 returns-then-not-are-apart c =
-    sym (cond_false _ _ _ (not_all (λ p. apart (get_or c.args.ranks p [])) 8 c.loop-p.p c.loop-p-test.true (sym c.if-not-are-apart.ensures)))
+    sym (cond-false _ _ _ (not_all (λ p. apart (get_or c.args.ranks p [])) 8 c.loop-p.p c.loop-p-test.true (sym c.if-not-are-apart.ensures)))
 
 pub loop-p-preserved : goal.loop-p-preserved
 loop-p-preserved c = all_more (λ p. apart (get_or c.args.ranks p [])) c.loop-p.p c.loop-p.invariant (sym c.if-not-are-apart.ensures)

@@ -1,6 +1,6 @@
 use Rattle.std.proofs.Common.{◌≡◌, ℕ, ◌+◌, ◌<◌, ◌≤◌, List, length, drop, fold, sum, sym, ◌∙◌, arith}
 use Rattle.std.proofs.lemmas.List.{at_drop_all, at_drop_more}
-use Rattle.std.proofs.lemmas.Bool.{cond_false, cond_true, le-leb, lt-leb}
+use Rattle.std.proofs.lemmas.Bool.{cond-false, cond-true, le-leb, lt-leb}
 use Rattle.timetable.proofs.Shares.{cycle_by_sum}
 use Rattle.timetable.proofs.share_cycle.ShareCycle.check.Goals as goal
 
@@ -17,10 +17,10 @@ pub returns-then-total-from : goal.returns-then-total-from
 returns-then-total-from c =
     let e = total_is c.args.shares c.loop-share.share-index c.loop-share.total (omega arith) c.loop-share.invariant.0 in
     let h : sum c.args.shares ≤ c.args.frame = omega (arith, e) in
-    sym (cycle_by_sum c.args.frame c.args.shares (omega arith) (omega arith) ∙ cond_true _ _ _ (le-leb _ _ h))
+    sym (cycle_by_sum c.args.frame c.args.shares (omega arith) (omega arith) ∙ cond-true _ _ _ (le-leb _ _ h))
 
 pub returns-else-total-from : goal.returns-else-total-from
 returns-else-total-from c =
     let e = total_is c.args.shares c.loop-share.share-index c.loop-share.total (omega arith) c.loop-share.invariant.0 in
     let h : c.args.frame < sum c.args.shares = omega (arith, e) in
-    sym (cycle_by_sum c.args.frame c.args.shares (omega arith) (omega arith) ∙ cond_false _ _ _ (lt-leb _ _ h))
+    sym (cycle_by_sum c.args.frame c.args.shares (omega arith) (omega arith) ∙ cond-false _ _ _ (lt-leb _ _ h))
