@@ -26,12 +26,12 @@ returns c =
           ∙ (map_push tasks_in (vec_items d.partitions) _ ∙ ap (λ ks. module_of d ++ (ks ∷ [])) c.new-tasks.ensures.items);
     }
 
-pub returns-in-err-push : goal.returns-in-err-push
-returns-in-err-push c =
+pub returns-in_err-push : goal.returns-in_err-push
+returns-in_err-push c =
     let d = c.args.self.now in
-    let p = err_from_is_err_and c.from-residual.result c.from-residual.ensures.1 in
+    let p = err_from_is_err_and c.from_residual.result c.from_residual.ensures.1 in
     let free = cond_below (length (module_of d)) 8 (granted (length (module_of d))) (refused 11 []) (omega (arith, module_length d)) in
     rw (p.1, p.2) (record {
-      answer = ((length (module_of d), sym free), c.in-err-push.ensures.full);
-      after = ap (map tasks_in) c.in-err-push.ensures.items;
+      answer = ((length (module_of d), sym free), c.in_err-push.ensures.full);
+      after = ap (map tasks_in) c.in_err-push.ensures.items;
     })
