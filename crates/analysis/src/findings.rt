@@ -72,7 +72,7 @@ fn foreign_place(draft: &Draft, owners: &Owners) -> Option<u16>
 
 // All that is found on the module.
 pub fn examine<T: Timetable, O: LocalOrder>(draft: &Draft, table: &T, order: &O) -> Findings
-    ensures { result ≡ findings_on (means table.now) (means table.now) (O.LocalOrder.order order.now) (module_of draft.now) }
+    ensures { result ≡ findings_on (T.Timetable.means table.now) (T.Timetable.means table.now) (O.LocalOrder.order order.now) (module_of draft.now) }
 {
     let owners = Owners::draw(table);
     let mut partitions = [None; 8];

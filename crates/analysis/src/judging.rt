@@ -9,7 +9,7 @@ use order::LocalOrder;
 use timetable::Timetable;
 
 pub fn verdict<T: Timetable, O: LocalOrder>(draft: &Draft, table: &T, order: &O) -> model::Verdict
-    ensures { result ≡ verdict_on (means table.now) (means table.now) (O.LocalOrder.order order.now) (module_of draft.now) }
+    ensures { result ≡ verdict_on (T.Timetable.means table.now) (T.Timetable.means table.now) (O.LocalOrder.order order.now) (module_of draft.now) }
 {
     examine(draft, table, order).verdict()
 }

@@ -48,7 +48,7 @@ pub fn failing_start<T: Timetable, O: LocalOrder>(
     partition: u8,
     task: u8,
 ) -> Option<u16>
-    ensures { result ≡ failing_start (partition_in (means table.now) (O.LocalOrder.order order.now) (module_of draft.now) partition) (means table.now).frame task }
+    ensures { result ≡ failing_start (partition_in (T.Timetable.means table.now) (O.LocalOrder.order order.now) (module_of draft.now) partition) (T.Timetable.means table.now).frame task }
 {
     let tasks = draft.tasks(partition);
     let number = usize::from(task);

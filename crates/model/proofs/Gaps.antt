@@ -23,7 +23,7 @@ later p i r s e v = (v.0, v.1, v.2, omega (arith, v.3, later_supply p s v.0 e))
 pub earlier : (p : Partition) (i r s : ℕ) → p.owns s ≡ true → PassesIn p i r (s + 1) → PassesIn p i r s
 earlier p i r s e v = (v.0, v.1, v.2, omega (arith, v.3, earlier_supply p s v.0 e))
 
-passes_at : (p : Partition) (i r : ℕ) {a b : ℕ} → a ≡ b → PassesIn p i r a → PassesIn p i r b
+pub passes_at : (p : Partition) (i r : ℕ) {a b : ℕ} → a ≡ b → PassesIn p i r a → PassesIn p i r b
 passes_at p i r e v = let P : ℕ → Type 0 = λ s. PassesIn p i r s in subst P e v
 
 module _ (p : Partition) (f i r : ℕ) (again : Repeats p f) (none : PassesIn p i r 0)

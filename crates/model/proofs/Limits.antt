@@ -14,13 +14,13 @@ pub record Limits (m : Module) : Type 0 where
       (1 ≤ (task_in m p i).cost) × ((task_in m p i).cost ≤ (task_in m p i).deadline) ×
       ((task_in m p i).deadline ≤ (task_in m p i).period) × ((task_in m p i).period ≤ 4096)
 
-tasks_within : (ks : List Task) → all_within ks ≡ true → (i : ℕ) → i < length ks → within_limits (task_of ks i) ≡ true
+pub tasks_within : (ks : List Task) → all_within ks ≡ true → (i : ℕ) → i < length ks → within_limits (task_of ks i) ≡ true
 unfolding task_of
 tasks_within [] h i l = absurd (omega arith)
 tasks_within (k ∷ ks) h zero l = (and_parts _ _ h).0
 tasks_within (k ∷ ks) h (suc i) l = tasks_within ks (and_parts _ _ h).1 i (omega arith)
 
-each_within : (m : Module) → partitions_within m ≡ true → (p : ℕ) → partition_within (tasks_of m p) ≡ true
+pub each_within : (m : Module) → partitions_within m ≡ true → (p : ℕ) → partition_within (tasks_of m p) ≡ true
 each_within [] h p = refl
 each_within (ks ∷ m) h zero = (and_parts _ _ h).0
 each_within (ks ∷ m) h (suc p) = each_within m (and_parts _ _ h).1 p

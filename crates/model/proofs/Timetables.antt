@@ -19,7 +19,7 @@ pub then_grants : {A : Type 0} (a : Answer (Unit {0})) (b : Answer A) (x : A) �
 then_grants (granted u) b x e = ((u, refl), e)
 then_grants (refused n vs) b x e = absurd (refuses n vs x e)
 
-both_grant : (a b : Answer (Unit {0})) → Grants (and_then a b) → Grants a × Grants b
+pub both_grant : (a b : Answer (Unit {0})) → Grants (and_then a b) → Grants a × Grants b
 both_grant a b h = let v = then_grants a b h.0 h.1 in (v.0, (h.0, v.1))
 
 if_granted : (b : Bool) (a : Answer (Unit {0})) (n : ℕ) (vs : List ℕ) → Grants (cond b a (refused n vs)) → b ≡ true
@@ -88,11 +88,11 @@ timetables_lawful = record { windows = windows_lawful; cycles = cycles_lawful; s
 
 -- Windows of an allowed list lie one after another.
 module _ (f : ℕ) where
-  abbrev Allowed : ℕ → Option Window → List Window → Type 0
+  abbrev pub Allowed : ℕ → Option Window → List Window → Type 0
   Allowed i v ws = Grants (windows_answer overlap f i v ws)
 
   -- what is granted of a window and those after it
-  after_it : (i : ℕ) (v : Option Window) (w : Window) (ws : List Window) → Allowed i v (w ∷ ws) → Allowed (i + 1) (Some w) ws
+  pub after_it : (i : ℕ) (v : Option Window) (w : Window) (ws : List Window) → Allowed i v (w ∷ ws) → Allowed (i + 1) (Some w) ws
   after_it i v w ws h = (both_grant (window_answer overlap f i v w) _ h).1
 
   some_length : (i : ℕ) (v : Option Window) (w : Window) (ws : List Window) → Allowed i v (w ∷ ws) → in_frame f w ≡ true
@@ -102,7 +102,7 @@ module _ (f : ℕ) where
   no_overlap true i h = refl
   no_overlap false i h = absurd (refuses 54 (i ∷ []) h.0 h.1)
 
-  next_begins : (i : ℕ) (v w : Window) (ws : List Window) → Allowed i (Some v) (w ∷ ws) → end_of v ≤ w.start
+  pub next_begins : (i : ℕ) (v w : Window) (ws : List Window) → Allowed i (Some v) (w ∷ ws) → end_of v ≤ w.start
   next_begins i v w ws h =
       let g : Grants (window_answer overlap f i (Some v) w) = (both_grant (window_answer overlap f i (Some v) w) _ h).0 in
       let e : window_answer overlap f i (Some v) w ≡ naming i (overlap v w) = cond-true _ _ _ (some_length i (Some v) w ws h) in

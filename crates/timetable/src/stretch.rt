@@ -17,7 +17,7 @@ fn is_owner(partition: u8, owner: Option<u8>) -> bool
 
 // Of the ticks `start` to `start + length - 1`, those that the partition owns.
 pub fn supply<T: Timetable>(table: &T, partition: u8, start: u64, length: u16) -> u16
-    ensures { result ≡ supply (owning (means table.now) partition) start length }
+    ensures { result ≡ supply (owning (T.Timetable.means table.now) partition) start length }
 {
     let place = start % u64::from(table.frame());
     let mut count = 0;

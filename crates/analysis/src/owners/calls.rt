@@ -7,7 +7,7 @@ use timetable::Timetable;
 
 impl Owners {
     pub(crate) fn draw<T: Timetable>(table: &T) -> Owners
-        ensures { DrawnFrom (means table.now) result }
+        ensures { DrawnFrom (T.Timetable.means table.now) result }
     {
         let frame = table.frame();
         let mut places = [None; 1024];

@@ -24,7 +24,7 @@ returns-in-70 c =
     let e : get_or xs 0 0 ≡ 0x46 = search rules in
     record {
       answer = rw take_rest (search rules);
-      bytes = rw (take_rest, c.word-in-70.ensures) (frame_there xs h e (c.type-inv.tape 2).fits);
+      bytes = rw (take_rest, c.word-in-70.ensures) (frame_there xs h e (c.type_inv.tape 2).fits);
     }
 
 pub returns-in-84 : goal.returns-in-84
@@ -32,7 +32,7 @@ returns-in-84 c =
     let xs : List ℕ = c.args.tape.now in
     let h : 7 ≤ length xs = search rules in
     let e : get_or xs 0 0 ≡ 0x54 = search rules in
-    let fits = c.type-inv.tape in
+    let fits = c.type_inv.tape in
     record {
       answer = rw take_rest (search rules);
       bytes = rw (take_rest, c.word-cost.ensures, c.word-period.ensures, c.word-deadline.ensures) (task_there xs h e (fits 2).fits (fits 4).fits (fits 6).fits);
@@ -43,7 +43,7 @@ returns-in-87 c =
     let xs : List ℕ = c.args.tape.now in
     let h : 6 ≤ length xs = search rules in
     let e : get_or xs 0 0 ≡ 0x57 = search rules in
-    let fits = c.type-inv.tape in
+    let fits = c.type_inv.tape in
     record {
       answer = rw take_rest (search rules);
       bytes = rw (take_rest, c.word.ensures, c.word-in-87.ensures) (window_there xs h e (fits 3).fits (fits 5).fits);

@@ -11,23 +11,23 @@ use Rattle.tape_reader.proofs.reader.load_tape.Goals as goal
 pub loop-load-init : goal.loop-load-init
 loop-load-init c = subst (λ l. Standing c.args.tape.now l c.args.tape.now) (sym c.new-load.ensures) (standing_start c.args.tape.now)
 
-pub overflow-sub-offset : goal.overflow-sub-offset
-overflow-sub-offset c =
+pub overflow_sub-offset : goal.overflow_sub-offset
+overflow_sub-offset c =
     let load = c.loop-load.load in
     (standing_offset c.args.tape.now (progress load) c.loop-load.rest.now c.loop-load.invariant (draft_within load.draft)).2
 
-pub overflow-cast-offset : goal.overflow-cast-offset
-overflow-cast-offset c =
+pub overflow_cast-offset : goal.overflow_cast-offset
+overflow_cast-offset c =
     let load = c.loop-load.load in
     let o = (standing_offset c.args.tape.now (progress load) c.loop-load.rest.now c.loop-load.invariant (draft_within load.draft)).1 in
     record { fits = omega arith }
 
-pub returns-in-err-command : goal.returns-in-err-command
-returns-in-err-command c =
+pub returns-in_err-command : goal.returns-in_err-command
+returns-in_err-command c =
     let tape = c.args.tape.now in
     let xs = c.loop-load.rest.now in
-    let p = err_from_is_err_and c.from-residual.result c.from-residual.ensures.1 in
-    let f = located_err (length tape - length xs) c.step.result c.in-err-command.field-0.0 (sym c.at.ensures ∙ c.in-err-command.was) in
+    let p = err_from_is_err_and c.from_residual.result c.from_residual.ensures.1 in
+    let f = located_err (length tape - length xs) c.step.result c.in_err-command.field-0.0 (sym c.at.ensures ∙ c.in_err-command.was) in
     let fails = rw f.1 at c.step.ensures.answer in
     rw (p.1, p.2, f.2) (record { answer = standing_told tape (progress c.loop-load.load) xs c.loop-load.invariant (draft_within c.loop-load.load.draft) (breach f.0) fails; again = tt; accepted = tt; few = tt })
 
@@ -40,9 +40,9 @@ pub returns-in-End : goal.returns-in-End
 returns-in-End c =
     let tape = c.args.tape.now in
     let xs = c.loop-load.rest.now in
-    let m = c.in-ok-command.command in
-    let rest = c.in-ok-command.after in
-    let ok = located_ok (length tape - length xs) c.step.result (m, rest) (sym c.at.ensures ∙ c.in-ok-command.was) in
+    let m = c.in_ok-command.command in
+    let rest = c.in_ok-command.after in
+    let ok = located_ok (length tape - length xs) c.step.result (m, rest) (sym c.at.ensures ∙ c.in_ok-command.was) in
     let e = rw ok at c.step.ensures.bytes in
     let r = rw ok at c.step.ensures.answer in
     rw c.ended.ensures (loaded_at_end tape (progress c.loop-load.load) xs c.loop-load.invariant m rest.now c.step.new.load e r c.in-End.is (draft_within c.loop-load.load.draft))
@@ -51,9 +51,9 @@ pub loop-load-preserved : goal.loop-load-preserved
 loop-load-preserved c =
     let tape = c.args.tape.now in
     let xs = c.loop-load.rest.now in
-    let m = c.in-ok-command.command in
-    let rest = c.in-ok-command.after in
-    let ok = located_ok (length tape - length xs) c.step.result (m, rest) (sym c.at.ensures ∙ c.in-ok-command.was) in
+    let m = c.in_ok-command.command in
+    let rest = c.in_ok-command.after in
+    let ok = located_ok (length tape - length xs) c.step.result (m, rest) (sym c.at.ensures ∙ c.in_ok-command.was) in
     let e = rw ok at c.step.ensures.bytes in
     let r = rw ok at c.step.ensures.answer in
-    standing_next tape (progress c.loop-load.load) xs c.loop-load.invariant m rest.now (progress c.step.new.load) e r (no_end m c.in-default.not-End)
+    standing_next tape (progress c.loop-load.load) xs c.loop-load.invariant m rest.now (progress c.step.new.load) e r (no_end m c.in_default.not-End)

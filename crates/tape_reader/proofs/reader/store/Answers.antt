@@ -10,9 +10,9 @@ pub returns : goal.returns
 returns c =
     let load = c.args.load in
     let n = c.len-count.result in
-    let new : List Window = c.copy-from-slice.new.self in
+    let new : List Window = c.copy_from_slice.new.self in
     let later : List Window = post_of 0 (n - 0) c.args.windows.now in
-    let copied : new ≡ vec_items load.windows = c.copy-from-slice.ensures.after ∙ c.as-slice.ensures.value in
+    let copied : new ≡ vec_items load.windows = c.copy_from_slice.ensures.after ∙ c.as_slice.ensures.value in
     let long : length new ≡ n = ap length copied ∙ (sym load.windows.ok.0 ∙ sym c.len-count.ensures) in
     let same : vec_items load.windows ≡ take n (new ++ later) = sym (take_at new later n long ∙ copied) in
     let holding : List Window → Contents = λ ws. record { partitions = module_of load.draft; frame = load.frame; windows = ws } in

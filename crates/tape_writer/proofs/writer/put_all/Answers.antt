@@ -7,13 +7,13 @@ use Rattle.tape.proofs.Lists.{mapped_on}
 use Rattle.tape_writer.proofs.Written.{Written, written_more}
 use Rattle.tape_writer.proofs.writer.put_all.Goals as goal
 
-pub slice-bounds-put-count : goal.slice-bounds-put-count
-slice-bounds-put-count g c =
+pub slice_bounds-put-count : goal.slice_bounds-put-count
+slice_bounds-put-count g c =
     let on = mapped_on bytes g.T.Commanded.commanded c.args.items.now c.loop-item.item-index c.item-item.result c.loop-item-test.true c.item-item.is in
     omega arith
 
-pub slice-bounds-put-start : goal.slice-bounds-put-start
-slice-bounds-put-start g c =
+pub slice_bounds-put-start : goal.slice_bounds-put-start
+slice_bounds-put-start g c =
     let on = mapped_on bytes g.T.Commanded.commanded c.args.items.now c.loop-item.item-index c.item-item.result c.loop-item-test.true c.item-item.is in
     omega arith
 

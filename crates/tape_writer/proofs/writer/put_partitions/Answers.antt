@@ -8,25 +8,25 @@ use Rattle.tape.proofs.Lists.{joined_on}
 use Rattle.tape_writer.proofs.Written.{Written, written_more}
 use Rattle.tape_writer.proofs.writer.put_partitions.Goals as goal
 
-pub slice-bounds-put-partition-count : goal.slice-bounds-put-partition-count
-slice-bounds-put-partition-count c =
+pub slice_bounds-put_partition-count : goal.slice_bounds-put_partition-count
+slice_bounds-put_partition-count c =
     let on = joined_on partition_bytes (module_of c.args.draft.now) c.loop-partition.partition c.tasks.result.now [] (omega arith) c.tasks.ensures in
     omega arith
 
-pub slice-bounds-put-partition-start : goal.slice-bounds-put-partition-start
-slice-bounds-put-partition-start c =
+pub slice_bounds-put_partition-start : goal.slice_bounds-put_partition-start
+slice_bounds-put_partition-start c =
     let on = joined_on partition_bytes (module_of c.args.draft.now) c.loop-partition.partition c.tasks.result.now [] (omega arith) c.tasks.ensures in
     omega arith
 
-pub put-partition-at-requires : goal.put-partition-at-requires
-put-partition-at-requires c =
+pub put_partition-at-requires : goal.put_partition-at-requires
+put_partition-at-requires c =
     let on = joined_on partition_bytes (module_of c.args.draft.now) c.loop-partition.partition c.tasks.result.now [] (omega arith) c.tasks.ensures in
     simp (length-take, length-drop) (omega arith)
 
-pub overflow-add-at : goal.overflow-add-at
-overflow-add-at c =
+pub overflow_add-at : goal.overflow_add-at
+overflow_add-at c =
     let on = joined_on partition_bytes (module_of c.args.draft.now) c.loop-partition.partition c.tasks.result.now [] (omega arith) c.tasks.ensures in
-    record { fits = omega (arith, c.put-partition-at.ensures.count) }
+    record { fits = omega (arith, c.put_partition-at.ensures.count) }
 
 pub loop-partition-preserved : goal.loop-partition-preserved
 loop-partition-preserved c =
@@ -37,9 +37,9 @@ loop-partition-preserved c =
     let on = joined_on partition_bytes m p c.tasks.result.now [] (omega arith) c.tasks.ensures in
     let room : end ≤ length out = omega arith in
     subst
-    (λ bs. Written bs (end + c.put-partition-at.result) (put_mid end (length out - end) out c.put-partition-at.new.out) c.args.out.now)
+    (λ bs. Written bs (end + c.put_partition-at.result) (put_mid end (length out - end) out c.put_partition-at.new.out) c.args.out.now)
     (sym on.more)
-    (written_more (flat_map partition_bytes (take p m)) (partition_bytes c.tasks.result.now) out c.args.out.now c.put-partition-at.new.out end c.put-partition-at.result c.loop-partition.invariant room c.put-partition-at.ensures.count c.put-partition-at.ensures.after)
+    (written_more (flat_map partition_bytes (take p m)) (partition_bytes c.tasks.result.now) out c.args.out.now c.put_partition-at.new.out end c.put_partition-at.result c.loop-partition.invariant room c.put_partition-at.ensures.count c.put_partition-at.ensures.after)
 
 pub returns : goal.returns
 returns c =

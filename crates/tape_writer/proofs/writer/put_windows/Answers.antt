@@ -6,14 +6,14 @@ use Rattle.tape.specs.Commands.{bytes}
 use Rattle.tape_writer.proofs.Written.{two_parts}
 use Rattle.tape_writer.proofs.writer.put_windows.Goals as goal
 
-pub put-all-at-requires : goal.put-all-at-requires
-put-all-at-requires c = omega (arith, length-append (flat_map bytes (map Window c.args.windows.now)) (bytes End))
+pub put_all-at-requires : goal.put_all-at-requires
+put_all-at-requires c = omega (arith, length-append (flat_map bytes (map Window c.args.windows.now)) (bytes End))
 
-pub slice-bounds-put-count : goal.slice-bounds-put-count
-slice-bounds-put-count c = omega (arith, length-append (flat_map bytes (map Window c.args.windows.now)) (bytes End))
+pub slice_bounds-put-count : goal.slice_bounds-put-count
+slice_bounds-put-count c = omega (arith, length-append (flat_map bytes (map Window c.args.windows.now)) (bytes End))
 
-pub slice-bounds-put-start : goal.slice-bounds-put-start
-slice-bounds-put-start c = omega (arith, length-append (flat_map bytes (map Window c.args.windows.now)) (bytes End))
+pub slice_bounds-put-start : goal.slice_bounds-put-start
+slice_bounds-put-start c = omega (arith, length-append (flat_map bytes (map Window c.args.windows.now)) (bytes End))
 
 pub put-requires : goal.put-requires
 put-requires c =
@@ -22,6 +22,6 @@ put-requires c =
 pub returns : goal.returns
 returns c =
     let list : List ℕ = flat_map bytes (map Window c.args.windows.now) in
-    let room : c.put-all-at.result ≤ length c.put-all-at.new.out = omega (arith, length-append list (bytes End)) in
-    let all = two_parts list (bytes End) c.args.out.now c.put-all-at.new.out c.put.new.out c.put-all-at.result c.put.result room c.put-all-at.ensures.count c.put-all-at.ensures.after c.put.ensures.count c.put.ensures.after in
+    let room : c.put_all-at.result ≤ length c.put_all-at.new.out = omega (arith, length-append list (bytes End)) in
+    let all = two_parts list (bytes End) c.args.out.now c.put_all-at.new.out c.put.new.out c.put_all-at.result c.put.result room c.put_all-at.ensures.count c.put_all-at.ensures.after c.put.ensures.count c.put.ensures.after in
     record { count = all.count; after = all.after }

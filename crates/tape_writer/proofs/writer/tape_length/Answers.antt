@@ -5,8 +5,8 @@ use Rattle.draft.proofs.Modules.{draft_within}
 use Rattle.tape.proofs.Lengths.{partitions_size, module_short, encode_length}
 use Rattle.tape_writer.proofs.writer.tape_length.Goals as goal
 
-pub overflow-add-partitions-in-loop-partition : goal.overflow-add-partitions-in-loop-partition
-overflow-add-partitions-in-loop-partition c =
+pub overflow_add-partitions-in-loop-partition : goal.overflow_add-partitions-in-loop-partition
+overflow_add-partitions-in-loop-partition c =
     let m = module_of c.args.draft.now in
     let on = at_drop_more partitions_size m c.loop-partition.partition [] (omega arith) in
     let ks = ap length c.tasks.ensures in
@@ -18,8 +18,8 @@ loop-partition-preserved c =
     let ks = ap length c.tasks.ensures in
     omega (arith, on)
 
-pub overflow-add-result-3 : goal.overflow-add-result-3
-overflow-add-result-3 c =
+pub overflow_add-result-3 : goal.overflow_add-result-3
+overflow_add-result-3 c =
     let m = module_of c.args.draft.now in
     record { fits = omega (arith, module_short m (draft_within c.args.draft.now)) }
 

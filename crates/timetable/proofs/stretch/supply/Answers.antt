@@ -5,7 +5,7 @@ use Rattle.model.specs.Timetables.{Timetable, owner_at, owned_by}
 use Rattle.model.proofs.Supplies.{supply_more, supply_none}
 use Rattle.timetable.specs.Owned.{owning}
 use Rattle.timetable.proofs.stretch.supply.Goals as goal
-use Rattle.timetable.proofs.stretch.supply.Goals.{else-is-owner, then-is-owner}
+use Rattle.timetable.proofs.stretch.supply.Goals.{else-is_owner, then-is_owner}
 
 -- counted from its place in the frame, a tick has the same owner
 owner_from_place : (t : Timetable) (s i : ℕ) → owner_at t (s % t.frame + i) ≡ owner_at t (s + i)
@@ -24,11 +24,11 @@ loop-i-init g c = (sym (supply_none (owning (g.T.Timetable.means c.args.table.no
 pub loop-i-preserved : goal.loop-i-preserved
 loop-i-preserved g c =
     let t = g.T.Timetable.means c.args.table.now in
-    let more : (own : Bool) → c.is-owner.result ≡ own → c.loop-i.count + cond own 1 0 ≡ supply (owning t c.args.partition) c.args.start (c.loop-i.i + 1) =
+    let more : (own : Bool) → c.is_owner.result ≡ own → c.loop-i.count + cond own 1 0 ≡ supply (owning t c.args.partition) c.args.start (c.loop-i.i + 1) =
     λ own e. one_more t c.args.partition c.args.start c.loop-i.i (c.args.start % c.from.result) c.loop-i.count own
     (ap (λ f. c.args.start % f) (c.from.ensures ∙ c.frame.ensures)) c.loop-i.invariant.0
-    (sym e ∙ c.is-owner.ensures ∙ ap (owned_by c.args.partition) (c.owner.ensures ∙ ap (λ i. owner_at t (c.args.start % c.from.result + i)) c.from-in-loop-i.ensures)) in
-    elim c.if-is-owner.branch [
-      | then-is-owner w ↦ (w.count-is ∙ more true w.if-is-owner.true, omega (arith, w.count-is, c.loop-i.invariant.1))
-      | else-is-owner w ↦ (w.count-is ∙ omega (arith, more false w.if-is-owner.false), omega (arith, w.count-is, c.loop-i.invariant.1))
+    (sym e ∙ c.is_owner.ensures ∙ ap (owned_by c.args.partition) (c.owner.ensures ∙ ap (λ i. owner_at t (c.args.start % c.from.result + i)) c.from-in-loop-i.ensures)) in
+    elim c.if-is_owner.branch [
+      | then-is_owner w ↦ (w.count-is ∙ more true w.if-is_owner.true, omega (arith, w.count-is, c.loop-i.invariant.1))
+      | else-is_owner w ↦ (w.count-is ∙ omega (arith, more false w.if-is_owner.false), omega (arith, w.count-is, c.loop-i.invariant.1))
     ]

@@ -7,7 +7,7 @@ use Rattle.timetable.proofs.share_cycle.ShareCycle.check.Goals as goal
 pub loop-share-preserved : goal.loop-share-preserved
 loop-share-preserved c =
     let more = at_drop_more (fold ◌+◌ c.loop-share.total) c.args.shares c.loop-share.share-index 0 (omega arith) in
-    (simp c.from-total.ensures (sym more ∙ c.loop-share.invariant.0), omega (arith, c.loop-share-test.element-fits))
+    (simp c.from-total.ensures (sym more ∙ c.loop-share.invariant.0), omega (arith, c.loop-share-test.element_fits))
 
 -- the whole list was added up
 total_is : (shares : List ℕ) (n total : ℕ) → length shares ≤ n → fold ◌+◌ total (drop n shares) ≡ fold ◌+◌ 0 shares → total ≡ sum shares

@@ -27,7 +27,7 @@ loop-low-preserved c =
 pub returns-then-low-windows : goal.returns-then-low-windows
 returns-then-low-windows c =
     let inv = c.loop-low.invariant in
-    c.owner-if-begun.ensures ∙
+    c.owner_if_begun.ensures ∙
     sym (first_decides c.args.windows.now c.loop-low.low c.args.place no_window c.requires c.if-low-windows.true (λ i l. inv.2 i no_window l) (inv.3 c.loop-low.low no_window (omega arith) c.if-low-windows.true))
 
 pub returns-else-low-windows : goal.returns-else-low-windows
