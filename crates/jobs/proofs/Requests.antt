@@ -13,7 +13,7 @@ use Rattle.model.specs.declared.refusal.Refusal.TheVariants.{NoSuchTask, TooSoon
 use Rattle.model.specs.declared.reply.Reply.{Reply}
 use Rattle.model.specs.declared.reply.Reply.TheVariants.{Refused, Due, Count, Entry}
 use Rattle.model.specs.declared.task.Task.{Task}
-use Rattle.model.specs.Machine.{PartitionState, put, noted, ready, unless, refusal, ran_of, answered, released, closed, obeyed, told, asked}
+use Rattle.model.specs.Machine.{PartitionState, put, noted, ready, unless, refusal, ran_of, answered, released, closed, obeyed, told, asked, refused_of}
 use Rattle.model.specs.Modules.{task_of}
 use Rattle.model.proofs.Turns.{put_same, put_other}
 use Rattle.jobs.specs.declared.event.Event.{Event}
@@ -84,11 +84,11 @@ module _ (ks : List Task) (now : ℕ) (h : PartitionState) where
 
   module _ (i : ℕ) where
     pub release_noted : Noted (request.Release i) i
-    unfolding asked
+    unfolding asked refused_of
     release_noted n = refl
 
     pub end_noted : Noted (request.End i) i
-    unfolding asked
+    unfolding asked refused_of
     end_noted n = refl
 
     pub release_past : length ks ≤ i → refusal ks now h (request.Release i) ≡ Some NoSuchTask
@@ -165,7 +165,7 @@ module _ (ks : List Task) (now : ℕ) (h : PartitionState) where
 
     -- a fault entry, which only looks
     pub fault_past : length h.faults ≤ i → ComesTo (request.Fault i) (Refused NoSuchFault) h
-    unfolding refusal unless told asked
+    unfolding refusal unless told asked refused_of
     fault_past l = let n = le-ltb i (length h.faults) l in rw n (refl, refl)
 
     pub fault_there : i < length h.faults → (f : Fault) → f ≡ get_or h.faults i (record { refusal = NoSuchFault; task = 0; tick = 0 }) → ComesTo (request.Fault i) (Entry f) h

@@ -23,7 +23,7 @@ fn push_line(heap: Global, text: &mut String, command: Command) -> Result<(), Al
 
 // A line for each item.
 fn push_lines<T: Commanded>(heap: Global, text: &mut String, items: &[T]) -> Result<(), AllocError>
-    ensures { OnOk result (string_bytes text.new ≡ string_bytes text.old ++ flat_map line (map commanded items.now)) }
+    ensures { OnOk result (string_bytes text.new ≡ string_bytes text.old ++ flat_map line (map T.Commanded.commanded items.now)) }
 {
     for item in items {
         push_line(heap, text, item.command())?;

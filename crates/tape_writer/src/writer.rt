@@ -99,9 +99,9 @@ fn put(command: Command, out: &mut [u8]) -> usize
 
 // Writes the commands of some items at the front, and answers how many bytes they have.
 fn put_all<T: Commanded>(items: &[T], out: &mut [u8]) -> usize
-    requires { length (flat_map bytes (map commanded items.now)) ≤ length out.old }
-    ensures count { result ≡ length (flat_map bytes (map commanded items.now)) }
-    ensures after { out.new ≡ flat_map bytes (map commanded items.now) ++ drop result out.old }
+    requires { length (flat_map bytes (map T.Commanded.commanded items.now)) ≤ length out.old }
+    ensures count { result ≡ length (flat_map bytes (map T.Commanded.commanded items.now)) }
+    ensures after { out.new ≡ flat_map bytes (map T.Commanded.commanded items.now) ++ drop result out.old }
 {
     let mut at = 0;
     for item in items {

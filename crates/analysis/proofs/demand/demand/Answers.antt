@@ -12,14 +12,14 @@ loop-j-init g c =
     let w = limits_at ks c.requires.limits c.args.task c.requires.known in
     (c.from-sum.ensures ∙ sym (summed_none (g.O.LocalOrder.order c.args.order.now) c.args.partition ks c.args.task c.args.ticks), omega (arith, c.from-sum.ensures))
 
-pub div-ceil-requires : goal.div-ceil-requires
-div-ceil-requires g c = let w = limits_at c.args.tasks.now c.requires.limits c.loop-j.j c.loop-j-test.true in omega arith
+pub div_ceil-requires : goal.div_ceil-requires
+div_ceil-requires g c = let w = limits_at c.args.tasks.now c.requires.limits c.loop-j.j c.loop-j-test.true in omega arith
 
-pub overflow-add-sum : goal.overflow-add-sum
-overflow-add-sum g c =
+pub overflow_add-sum : goal.overflow_add-sum
+overflow_add-sum g c =
     let k : Task = get_or c.args.tasks.now c.loop-j.j (task 0 0 0) in
     let w = limits_at c.args.tasks.now c.requires.limits c.loop-j.j c.loop-j-test.true in
-    let q : c.from.result * c.from-then-before.result ≡ k.cost * (c.args.ticks / k.period + min 1 (c.args.ticks % k.period)) = ap₂ ◌*◌ c.from.ensures (c.from-then-before.ensures ∙ c.div-ceil.ensures) in
+    let q : c.from.result * c.from-then-before.result ≡ k.cost * (c.args.ticks / k.period + min 1 (c.args.ticks % k.period)) = ap₂ ◌*◌ c.from.ensures (c.from-then-before.ensures ∙ c.div_ceil.ensures) in
     omega (arith, q, few c.args.tasks.now c.requires.limits, releases_cost k.cost c.args.ticks k.period (omega arith) c.requires.short (omega arith))
 
 pub loop-j-preserved : goal.loop-j-preserved
@@ -39,7 +39,7 @@ loop-j-preserved g c =
     let m = releases_cost k.cost t k.period (omega arith) c.requires.short (omega arith) in
     elim c.if-before.branch [
       | then-before w ↦
-          let y : w.from-then-before.result ≡ t / k.period + min 1 (t % k.period) = w.from-then-before.ensures ∙ w.div-ceil.ensures in
+          let y : w.from-then-before.result ≡ t / k.period + min 1 (t % k.period) = w.from-then-before.ensures ∙ w.div_ceil.ensures in
           let s = summed_before order p ks i t j (sym b ∙ w.if-before.true) (omega arith) w.from.result w.from-then-before.result w.from.ensures y in
           let q : w.from.result * w.from-then-before.result ≡ k.cost * (t / k.period + min 1 (t % k.period)) = ap₂ ◌*◌ w.from.ensures y in
           (omega (arith, s, w.sum-is, c.loop-j.invariant.0), omega (arith, q, m, w.sum-is, c.loop-j.invariant.1))

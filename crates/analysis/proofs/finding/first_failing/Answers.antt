@@ -12,13 +12,13 @@ loop-task-init g c =
     let p : Partition = partition_of (g.O.LocalOrder.order c.args.order.now) c.args.partition c.args.tasks.now (ticks_of c.args.places.now) in
     sym (such_none p.before (λ i. not (in_time p c.args.places.now.frame i)))
 
-pub loop-task-preserved-then-in-time : goal.loop-task-preserved-then-in-time
-loop-task-preserved-then-in-time g c =
+pub loop-task-preserved-then-in_time : goal.loop-task-preserved-then-in_time
+loop-task-preserved-then-in_time g c =
     let p : Partition = partition_of (g.O.LocalOrder.order c.args.order.now) c.args.partition c.args.tasks.now (ticks_of c.args.places.now) in
-    c.loop-task.invariant ∙ sym (such_skip p.before (λ i. not (in_time p c.args.places.now.frame i)) c.loop-task.task (ap not (sym c.in-time.ensures ∙ c.if-in-time.true)))
+    c.loop-task.invariant ∙ sym (such_skip p.before (λ i. not (in_time p c.args.places.now.frame i)) c.loop-task.task (ap not (sym c.in_time.ensures ∙ c.if-in_time.true)))
 
-pub goes-first-requires : goal.goes-first-requires
-goes-first-requires g c =
+pub goes_first-requires : goal.goes_first-requires
+goes_first-requires g c =
     let p : Partition = partition_of (g.O.LocalOrder.order c.args.order.now) c.args.partition c.args.tasks.now (ticks_of c.args.places.now) in
     record {
       few = c.requires;
@@ -31,7 +31,7 @@ loop-task-preserved g c =
     let p : Partition = partition_of (g.O.LocalOrder.order c.args.order.now) c.args.partition c.args.tasks.now (ticks_of c.args.places.now) in
     let test : ℕ → Bool = λ i. not (in_time p c.args.places.now.frame i) in
     let n : ℕ = c.loop-task.task in
-    ap Some (c.goes-first.ensures ∙ ap (first_of p.before n) c.loop-task.invariant) ∙ sym (such_found p.before test n (ap not (sym c.in-time.ensures ∙ c.if-in-time.false)))
+    ap Some (c.goes_first.ensures ∙ ap (first_of p.before n) c.loop-task.invariant) ∙ sym (such_found p.before test n (ap not (sym c.in_time.ensures ∙ c.if-in_time.false)))
 
 pub returns : goal.returns
 unfolding first_late size

@@ -5,12 +5,12 @@ use Rattle.model.specs.Orders.{record_of}
 use Rattle.model.specs.Ranges.{first_of}
 use Rattle.analysis.proofs.finding.goes_first.Goals as goal
 
-pub returns-in-default : goal.returns-in-default
+pub returns-in_default : goal.returns-in_default
 unfolding first_of
-returns-in-default g c =
+returns-in_default g c =
     let ks : List Task = c.args.tasks.now in
     let goes : ℕ → ℕ → Bool = λ j i. g.O.LocalOrder.order c.args.order.now c.args.partition (record_of ks j) (record_of ks i) in
-    sym (ap (first_of goes c.args.task) c.in-default.is)
+    sym (ap (first_of goes c.args.task) c.in_default.is)
 
 pub returns-then-before : goal.returns-then-before
 unfolding first_of record_of task_of

@@ -30,4 +30,4 @@ returns g c =
     fill_by_all (finding t order m) c.loop-partition.partitions 8 None c.loop-partition.invariant.size
     (λ p l. c.loop-partition.invariant.filled p (omega (arith, c.loop-partition-test.false)) ∙ drawn_finding t o c.draw-owners.ensures some order m p) in
     let make : Option ℕ → List (Option LateTask) → Findings = λ x ps. record { foreign = x; partitions = ps } in
-    ap₂ make (c.foreign-place.ensures ∙ drawn_foreign t o c.draw-owners.ensures m) all
+    ap₂ make (c.foreign_place.ensures ∙ drawn_foreign t o c.draw-owners.ensures m) all

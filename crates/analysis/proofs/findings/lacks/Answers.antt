@@ -9,7 +9,7 @@ unfolding owner_known
 returns-in-Some c =
     let n = length (module_of c.args.draft.now) in
     let e : leb n c.in-Some.partition ≡ not (ltb c.in-Some.partition n) = grind (arith, nat_tests) in
-    ap (λ x. leb x c.in-Some.partition) c.partition-count.ensures ∙ e ∙ sym (ap (λ o. not (owner_known (module_of c.args.draft.now) o)) c.in-Some.is)
+    ap (λ x. leb x c.in-Some.partition) c.partition_count.ensures ∙ e ∙ sym (ap (λ o. not (owner_known (module_of c.args.draft.now) o)) c.in-Some.is)
 
 pub returns-in-None : goal.returns-in-None
 unfolding owner_known

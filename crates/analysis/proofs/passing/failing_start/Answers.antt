@@ -25,8 +25,8 @@ returns-then-number-tasks g c =
     let d : D p i ≡ 0 = ap (λ k. k.deadline) (get_or_past (tasks_of m c.args.partition) i (task 0 0 0) l) in
     sym (absent_start p t.frame i (g.met.T.Timetable.lawful c.args.table.now).frame_within.0 d)
 
-pub first-failing-start-requires : goal.first-failing-start-requires
-first-failing-start-requires g c = record {
+pub first_failing_start-requires : goal.first_failing_start-requires
+first_failing_start-requires g c = record {
   limits = ap partition_within c.tasks-tasks.ensures ∙ draft_tasks c.args.draft.now c.args.partition;
   known = c.if-number-tasks.false;
 }
@@ -45,4 +45,4 @@ returns g c =
     same_partition t order m n c.tasks-tasks.result.now places c.tasks-tasks.ensures
     (λ u. c.of-places.ensures.ticks u ∙ ap (owned_by n) (drawn_owner t o c.draw-owners.ensures some u)) in
     let f : places.frame ≡ t.frame = c.of-places.ensures.frame ∙ c.draw-owners.ensures.frame in
-    c.first-failing-start.ensures ∙ ap (failing_start p places.frame) c.from-number.ensures ∙ ap₂ (λ q x. failing_start q x c.args.task) same f
+    c.first_failing_start.ensures ∙ ap (failing_start p places.frame) c.from-number.ensures ∙ ap₂ (λ q x. failing_start q x c.args.task) same f

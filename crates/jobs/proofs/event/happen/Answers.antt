@@ -5,20 +5,20 @@ use Rattle.jobs.specs.Events.{at_rest}
 use Rattle.jobs.proofs.Events.{last_lent, closed_after, too_soon, in_time, none_to_end, one_to_end, none_to_run, runs_on, is_spent}
 use Rattle.jobs.proofs.event.happen.Goals as goal
 
-pub returns-then-not-may-release : goal.returns-then-not-may-release
-returns-then-not-may-release c =
+pub returns-then-not-may_release : goal.returns-then-not-may_release
+returns-then-not-may_release c =
     let xs = c.args.states.now in
-    let arm = c.in-default-Release in
-    let early = sym (last_lent xs c.args.task arm.period arm.now) ∙ sym c.if-not-may-release.ensures in
+    let arm = c.in_default-Release in
+    let early = sym (last_lent xs c.args.task arm.period arm.now) ∙ sym c.if-not-may_release.ensures in
     let w = too_soon (get_or xs c.args.task at_rest) c.args.event arm.now arm.period arm.is-1 early in
     record { answer = w.0; after = ap (set xs c.args.task) w.1 }
 
-pub returns-else-not-may-release : goal.returns-else-not-may-release
+pub returns-else-not-may_release : goal.returns-else-not-may_release
 unfolding released
-returns-else-not-may-release c =
+returns-else-not-may_release c =
     let xs = c.args.states.now in
-    let arm = c.in-default-Release in
-    let free = sym (last_lent xs c.args.task arm.period arm.now) ∙ sym c.if-not-may-release.ensures in
+    let arm = c.in_default-Release in
+    let free = sym (last_lent xs c.args.task arm.period arm.now) ∙ sym c.if-not-may_release.ensures in
     let w = in_time (get_or xs c.args.task at_rest) c.args.event arm.now arm.period arm.is-1 free in
     record { answer = w.0; after = set-set xs c.args.task _ _ ∙ ap (set xs c.args.task) w.1 }
 
@@ -42,15 +42,15 @@ returns-in-None-Tick c =
     let w = none_to_run (get_or xs c.args.task at_rest) c.args.event arm.cost-1 arm.is-1 arm.is-0 in
     record { answer = w.0; after = ap (set xs c.args.task) w.1 }
 
-pub returns-then-ran-saturating-sub : goal.returns-then-ran-saturating-sub
-returns-then-ran-saturating-sub c =
+pub returns-then-ran-saturating_sub : goal.returns-then-ran-saturating_sub
+returns-then-ran-saturating_sub c =
     let xs = c.args.states.now in
     let arm = c.in-Some-Tick in
     let w = runs_on (get_or xs c.args.task at_rest) c.args.event arm.job arm.cost arm.is-1 arm.is-0 (omega arith) in
     record { answer = w.0; after = ap (set xs c.args.task) w.1 }
 
-pub returns-else-ran-saturating-sub : goal.returns-else-ran-saturating-sub
-returns-else-ran-saturating-sub c =
+pub returns-else-ran-saturating_sub : goal.returns-else-ran-saturating_sub
+returns-else-ran-saturating_sub c =
     let xs = c.args.states.now in
     let arm = c.in-Some-Tick in
     let w = is_spent (get_or xs c.args.task at_rest) c.args.event arm.job arm.cost arm.is-1 arm.is-0 (omega arith) in

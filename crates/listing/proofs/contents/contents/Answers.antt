@@ -12,6 +12,6 @@ returns c =
     let m = module_of c.args.draft.now in
     let tasks : List ℕ = flat_map line (flat_map partition_commands m) in
     let windows : List ℕ = flat_map line (map Window c.args.windows.now) in
-    c.in-ok-push-lines.ensures
-    ∙ (ap (λ t. t ++ windows) (c.in-ok-push-line.ensures ∙ ap (λ t. t ++ line (Frame c.args.frame)) (c.in-ok-push-partitions.ensures ∙ ap (λ t. t ++ tasks) c.new-text.ensures.bytes))
+    c.in_ok-push_lines.ensures
+    ∙ (ap (λ t. t ++ windows) (c.in_ok-push_line.ensures ∙ ap (λ t. t ++ line (Frame c.args.frame)) (c.in_ok-push_partitions.ensures ∙ ap (λ t. t ++ tasks) c.new-text.ensures.bytes))
     ∙ all_lines m c.args.frame c.args.windows.now)

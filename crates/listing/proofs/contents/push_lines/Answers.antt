@@ -11,7 +11,7 @@ loop-item-preserved g c =
     let was : List ℕ = string_bytes c.args.text.now in
     let had : List ℕ = flat_map line (take c.loop-item.item-index (map f c.args.items.now)) in
     let on = mapped_on line f c.args.items.now c.loop-item.item-index c.item-item.result c.loop-item-test.true c.item-item.is in
-    c.in-ok-push-line.ensures
+    c.in_ok-push_line.ensures
     ∙ (ap (λ t. t ++ line c.command.result) c.loop-item.invariant
     ∙ (append_assoc was had (line c.command.result)
     ∙ (ap (λ m. was ++ (had ++ line m)) c.command.ensures ∙ ap (λ t. was ++ t) (sym on.more))))

@@ -16,8 +16,8 @@ loop-partition-preserved c =
     let had : List ℕ = flat_map partition_lines (take c.loop-partition.partition m) in
     let ks = c.tasks.result.now in
     let on = joined_on partition_lines m c.loop-partition.partition ks [] (omega arith) c.tasks.ensures in
-    c.in-ok-push-lines.ensures
-    ∙ (ap (λ t. t ++ flat_map line (map task_command ks)) (c.in-ok-push-line.ensures ∙ ap (λ t. t ++ line Partition) c.loop-partition.invariant)
+    c.in_ok-push_lines.ensures
+    ∙ (ap (λ t. t ++ flat_map line (map task_command ks)) (c.in_ok-push_line.ensures ∙ ap (λ t. t ++ line Partition) c.loop-partition.invariant)
     ∙ (append_assoc (was ++ had) (line Partition) (flat_map line (map task_command ks))
     ∙ (append_assoc was had (partition_lines ks) ∙ ap (λ t. was ++ t) (sym on.more))))
 

@@ -9,7 +9,7 @@ pub loop-tick-preserved : goal.loop-tick-preserved
 loop-tick-preserved c =
     let m = module_of c.args.draft.now in
     let u = c.loop-tick.tick in
-    c.in-ok-push-calls.ensures ∙ ap (λ cs. cs ++ calls_at m u) c.loop-tick.invariant ∙ ap (earliest_calls m) (sym (add-one u))
+    c.in_ok-push_calls.ensures ∙ ap (λ cs. cs ++ calls_at m u) c.loop-tick.invariant ∙ ap (earliest_calls m) (sym (add-one u))
 
 pub returns : goal.returns
 returns c =

@@ -9,8 +9,8 @@ use Rattle.schedule.specs.Earliest.{module_releases, partition_releases}
 use Rattle.schedule.proofs.Left.{left_all, left_more}
 use Rattle.schedule.proofs.earliest.push_calls.Goals as goal
 
-pub push-releases-requires : goal.push-releases-requires
-push-releases-requires c =
+pub push_releases-requires : goal.push_releases-requires
+push_releases-requires c =
     let m = module_of c.args.draft.now in
     let few = (limits m (draft_within c.args.draft.now)).sizes c.loop-partition.partition in
     omega (arith, few, ap length c.tasks.ensures)
@@ -21,7 +21,7 @@ loop-partition-preserved c =
     let u = c.args.tick in
     let p = c.loop-partition.partition in
     left_more (module_releases u) m p (vec_items c.loop-partition.calls) c.loop-partition.invariant [] (partition_releases u p 0 c.tasks.result.now)
-    (ap (λ ks. partition_releases u p 0 ks ++ module_releases u (p + 1) (drop (p + 1) m)) (sym c.tasks.ensures)) (omega arith) c.in-ok-push-releases.ensures
+    (ap (λ ks. partition_releases u p 0 ks ++ module_releases u (p + 1) (drop (p + 1) m)) (sym c.tasks.ensures)) (omega arith) c.in_ok-push_releases.ensures
 
 pub returns : goal.returns
 returns c =
@@ -31,4 +31,4 @@ returns c =
     let all : vec_items c.loop-partition.calls ≡ was ++ made =
     left_all (module_releases c.args.tick) m c.loop-partition.partition (vec_items c.loop-partition.calls) c.loop-partition.invariant refl (omega arith)
     in
-    c.in-ok-push.ensures.items ∙ ap (λ cs. cs ++ (tick ∷ [])) all ∙ append_assoc was made (tick ∷ [])
+    c.in_ok-push.ensures.items ∙ ap (λ cs. cs ++ (tick ∷ [])) all ∙ append_assoc was made (tick ∷ [])

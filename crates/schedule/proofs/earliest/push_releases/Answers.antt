@@ -7,7 +7,7 @@ use Rattle.schedule.proofs.earliest.push_releases.Goals as goal
 pub loop-number-preserved : goal.loop-number-preserved
 loop-number-preserved c =
     left_more (partition_releases c.args.tick c.args.partition) c.args.tasks.now c.loop-number.number (vec_items c.loop-number.calls) c.loop-number.invariant
-    (task 0 0 0) _ refl c.loop-number-test.true c.in-ok-push-release.ensures
+    (task 0 0 0) _ refl c.loop-number-test.true c.in_ok-push_release.ensures
 
 pub returns : goal.returns
 returns c =

@@ -12,4 +12,4 @@ pub returns-in-Ran : goal.returns-in-Ran
 returns-in-Ran c =
     let P : Reply → Type 0 = λ a. IfOk c.format-in-Ran.result (λ s. string_bytes s ≡ tick_line c.args.tick a) in
     let Q : List ℕ → Type 0 = λ w. IfOk c.format-in-Ran.result (λ s. string_bytes s ≡ columns c.args.tick (decimal c.in-Ran.owner) (decimal c.in-Ran.task) w) in
-    subst P (sym c.in-Ran.is) (subst Q c.job-name-job.ensures c.format-in-Ran.ensures.ok)
+    subst P (sym c.in-Ran.is) (subst Q c.job_name-job.ensures c.format-in-Ran.ensures.ok)

@@ -21,7 +21,7 @@ loop-entry-preserved c =
     let e : Entry = get_or es i none in
     let text = string_bytes c.loop-entry.text in
     let more = at_drop_more (tick_lines n) es i none c.loop-entry-test.true in
-    let now-at = c.in-ok-tick.ensures in (
+    let now-at = c.in_ok-tick.ensures in (
       omega (arith, c.loop-entry.invariant.0, now-at.next, at_most_one (ticks e)),
       ap₂ (λ t k. t ++ tick_lines k (drop (i + 1) es)) now-at.line now-at.next ∙ append_assoc text (entry_line n e) _ ∙ ap (λ t. text ++ t) (sym more) ∙ c.loop-entry.invariant.1,
     )

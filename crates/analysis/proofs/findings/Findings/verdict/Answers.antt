@@ -16,14 +16,14 @@ pub returns-in-Some-found : goal.returns-in-Some-found
 unfolding verdict_by
 returns-in-Some-found c =
     let f : ℕ → Option LateTask = λ p. get_or c.args.self.now.partitions p None in
-    sym (ap₂ verdict_by c.in-default.is (some_found f 8 c.loop-partition.partition c.in-Some-found.task c.loop-partition-test.true c.loop-partition.invariant c.in-Some-found.is))
+    sym (ap₂ verdict_by c.in_default.is (some_found f 8 c.loop-partition.partition c.in-Some-found.task c.loop-partition-test.true c.loop-partition.invariant c.in-Some-found.is))
 
 pub loop-partition-preserved : goal.loop-partition-preserved
 loop-partition-preserved c =
-    below_more (λ p. get_or c.args.self.now.partitions p None ≡ None) c.loop-partition.partition c.loop-partition.invariant c.in-default-found.is
+    below_more (λ p. get_or c.args.self.now.partitions p None ≡ None) c.loop-partition.partition c.loop-partition.invariant c.in_default-found.is
 
 pub returns : goal.returns
 unfolding verdict_by
 returns c =
     let f : ℕ → Option LateTask = λ p. get_or c.args.self.now.partitions p None in
-    sym (ap₂ verdict_by c.in-default.is (none_found f 8 (λ p l. c.loop-partition.invariant p (omega (arith, c.loop-partition-test.false)))))
+    sym (ap₂ verdict_by c.in_default.is (none_found f 8 (λ p l. c.loop-partition.invariant p (omega (arith, c.loop-partition-test.false)))))

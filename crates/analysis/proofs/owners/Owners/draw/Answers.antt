@@ -16,10 +16,10 @@ loop-place-preserved g c =
     let l : x < t.frame = omega (arith, c.frame-frame.ensures) in
     fill c.loop-place.invariant c.from-in-loop-place.result c.owner.result c.from-in-loop-place.ensures (omega arith) (c.owner.ensures ∙ ap (λ u. t.owner (u % t.frame)) c.from.ensures ∙ ap t.owner (mod-eq_of_lt l))
 
-pub invariant-of-result : goal.invariant-of-result
-invariant-of-result g c =
+pub invariant_of-result : goal.invariant_of-result
+invariant_of-result g c =
     let within = (g.met.T.Timetable.lawful c.args.table.now).frame_within in
-    ((omega (arith, c.frame-frame.ensures), omega (arith, c.frame-frame.ensures), c.loop-place.invariant.size), tt)
+    record { ok = (omega (arith, c.frame-frame.ensures), omega (arith, c.frame-frame.ensures), c.loop-place.invariant.size) }
 
 pub returns : goal.returns
 returns g c = record { frame = c.frame-frame.ensures; owner = λ x l. c.loop-place.invariant.filled x (omega (arith, c.frame-frame.ensures)) }

@@ -12,8 +12,8 @@ loop-place-init c = record { size = length-replicate 1024 false; filled = λ u l
 pub loop-place-preserved : goal.loop-place-preserved
 loop-place-preserved c = fill c.loop-place.invariant c.from.result (ltb c.loop-place.place c.args.count) c.from.ensures (omega arith) refl
 
-pub invariant-of-result : goal.invariant-of-result
-invariant-of-result c = ((c.if-frame-lt1.false, c.if-frame-gt1024.false, c.loop-place.invariant.size), tt)
+pub invariant_of-result : goal.invariant_of-result
+invariant_of-result c = record { ok = (c.if-frame-lt1.false, c.if-frame-gt1024.false, c.loop-place.invariant.size) }
 
 pub returns : goal.returns
 returns c =

@@ -10,10 +10,10 @@ loop-place-init c = record { size = length-replicate 1024 false; filled = λ u l
 
 pub loop-place-preserved : goal.loop-place-preserved
 loop-place-preserved c =
-    fill c.loop-place.invariant c.from.result c.is-owner.result c.from.ensures (let o : Owners = c.args.owners.now in omega (arith, o.ok.1)) (c.is-owner.ensures ∙ ap (owned_by c.args.partition) c.at.ensures)
+    fill c.loop-place.invariant c.from.result c.is_owner.result c.from.ensures (let o : Owners = c.args.owners.now in omega (arith, o.ok.1)) (c.is_owner.ensures ∙ ap (owned_by c.args.partition) c.at.ensures)
 
-pub invariant-of-result : goal.invariant-of-result
-invariant-of-result c = let o : Owners = c.args.owners.now in ((omega (arith, o.ok.0), omega (arith, o.ok.1), c.loop-place.invariant.size), tt)
+pub invariant_of-result : goal.invariant_of-result
+invariant_of-result c = let o : Owners = c.args.owners.now in record { ok = (omega (arith, o.ok.0), omega (arith, o.ok.1), c.loop-place.invariant.size) }
 
 pub returns : goal.returns
 unfolding owner_at

@@ -8,8 +8,8 @@ pub returns : goal.returns
 returns c =
     let t = c.args.self.now in
     let i = c.args.task in
-    let lent = c.deref-mut.ensures.value in
-    let same : length c.happen.new.states ≡ vec_len t.states = ap length c.happen.ensures.after ∙ (length-set _ _ _ ∙ c.deref-mut.ensures.len) in
+    let lent = c.deref_mut.ensures.value in
+    let same : length c.happen.new.states ≡ vec_len t.states = ap length c.happen.ensures.after ∙ (length-set _ _ _ ∙ c.deref_mut.ensures.len) in
     record {
       answer = c.happen.ensures.answer ∙ ap (λ xs. outcome (states_of xs i) c.args.event) lent;
       after =

@@ -7,18 +7,22 @@ use Rattle.jobs.specs.Events.{at_rest, states_of}
 use Rattle.jobs.proofs.Requests.{states_none}
 use Rattle.jobs.proofs.job_table.JobTable.new.Goals as goal
 
-pub invariant-of-result : goal.invariant-of-result
-invariant-of-result c =
+pub invariant_of-result : goal.invariant_of-result
+invariant_of-result c =
     let d = c.args.draft.now in
-    let copied = c.in-ok-tasks.ensures.len ∙ ap length c.tasks.ensures in
-    let faults = c.in-ok-faults.ensures in
+    let copied = c.in_ok-tasks.ensures.len ∙ ap length c.tasks.ensures in
+    let faults = c.in_ok-faults.ensures in
     let few = (limits (module_of d) (draft_within d)).sizes c.args.partition in
-    (omega (arith, copied, few), (c.in-ok-states.ensures.len ∙ c.len.ensures, ((omega (arith, faults.len), omega (arith, faults.capacity)), tt)))
+    record {
+      few = omega (arith, copied, few);
+      level = c.in_ok-states.ensures.len ∙ c.len.ensures;
+      room = (omega (arith, faults.len), omega (arith, faults.capacity));
+    }
 
 pub returns : goal.returns
 returns c =
-    let states : vec_items c.in-ok-states.states ≡ replicate c.len.result at_rest = c.in-ok-states.ensures.items-if-clones-equal (λ y e. e) in
-    let faults = c.in-ok-faults.ensures.items in (
-      c.in-ok-tasks.ensures.items ∙ c.tasks.ensures,
+    let states : vec_items c.in_ok-states.states ≡ replicate c.len.result at_rest = c.in_ok-states.ensures.items_if_clones_equal (λ y e. e) in
+    let faults = c.in_ok-faults.ensures.items in (
+      c.in_ok-tasks.ensures.items ∙ c.tasks.ensures,
       λ k. record { tasks = (ap states_of states ∙ fun_ext (states_none c.len.result)) k; faults = faults k; lost = 0 },
     )

@@ -12,14 +12,14 @@ run-requires g c =
     let p = c.args.partition in
     omega (arith, chosen_below rule p (tasks_in t) (state_of t) c.in-Some.task c.in-Some.ensures, t.tasks.ok.0)
 
-pub returns-in-default : goal.returns-in-default
-returns-in-default g c =
+pub returns-in_default : goal.returns-in_default
+returns-in_default g c =
     let t = c.args.self.now in
     let rule = g.D.Dispatch.rule c.args.dispatch.now in
     let p = c.args.partition in
     record {
-      answer = idle_reply rule p (tasks_in t) (state_of t) c.in-default.ensures;
-      after = idle_tick rule p (tasks_in t) (state_of t) c.in-default.ensures;
+      answer = idle_reply rule p (tasks_in t) (state_of t) c.in_default.ensures;
+      after = idle_tick rule p (tasks_in t) (state_of t) c.in_default.ensures;
       tasks = refl;
       only = record { others = λ _ _. refl; faults = refl; lost = refl };
     }

@@ -8,9 +8,9 @@ pub loop-i-init : goal.loop-i-init
 unfolding all_below
 loop-i-init c = refl
 
-pub returns-then-not-is-new : goal.returns-then-not-is-new
-returns-then-not-is-new c =
-    sym (not_all (λ i. apart_below c.args.ranks i i) 16 c.loop-i.i c.loop-i-test.true (sym c.is-new.ensures ∙ c.if-not-is-new.true))
+pub returns-then-not-is_new : goal.returns-then-not-is_new
+returns-then-not-is_new c =
+    sym (not_all (λ i. apart_below c.args.ranks i i) 16 c.loop-i.i c.loop-i-test.true (sym c.is_new.ensures ∙ c.if-not-is_new.true))
 
 pub loop-i-preserved : goal.loop-i-preserved
-loop-i-preserved c = all_more (λ i. apart_below c.args.ranks i i) c.loop-i.i c.loop-i.invariant (sym c.is-new.ensures ∙ c.if-not-is-new.false)
+loop-i-preserved c = all_more (λ i. apart_below c.args.ranks i i) c.loop-i.i c.loop-i.invariant (sym c.is_new.ensures ∙ c.if-not-is_new.false)

@@ -7,11 +7,11 @@ use Rattle.round_robin.proofs.turns.calls.RoundRobinTimetable.owner.Goals as goa
 framed : (t : RoundRobin) → 1 ≤ t.partitions * t.turn
 framed t = some_place t.partitions t.turn t.fits.0 t.fits.1 t.fits.2 t.fits.3
 
-pub nonzero-rem-place : goal.nonzero-rem-place
-nonzero-rem-place c = omega (arith, framed c.args.self.now)
+pub nonzero_rem-place : goal.nonzero_rem-place
+nonzero_rem-place c = omega (arith, framed c.args.self.now)
 
-pub overflow-cast-result : goal.overflow-cast-result
-overflow-cast-result c =
+pub overflow_cast-result : goal.overflow_cast-result
+overflow_cast-result c =
     let t = c.args.self.now in
     let l = mod-lt c.args.tick (framed t) in
     let h = in_turn t.partitions t.turn t.fits.0 t.fits.1 t.fits.2 t.fits.3 _ l in
