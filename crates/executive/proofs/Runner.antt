@@ -6,7 +6,7 @@ use Rattle.model.specs.declared.reply.Reply.{Reply}
 use Rattle.model.specs.Machine.{DispatchRule, Engine, MachineState, after, chosen, is_runner, last_tick, late, reply, runner, ticked, tick_reply, turn_reply, worked}
 use Rattle.model.specs.Modules.{Module, tasks_of}
 use Rattle.model.specs.Promises.{executive}
-use Rattle.model.specs.FlightRecords.{runs}
+use Rattle.model.specs.FlightRecords.{is_tick, names_task, runs}
 use Rattle.model.specs.Timetables.{Timetable, owned_by, owner_at}
 use Rattle.executive.specs.declared.running.Running.{Running}
 use Rattle.executive.specs.Calls.{Answered, OnlyRunnerWritten}
@@ -29,7 +29,7 @@ module _ (t : Timetable) (rule : DispatchRule) (m : Module) (st : MachineState) 
   named p i r = runs p i (record { call = tick; answer = r })
 
   by_choice : (p i : ℕ) (k : Option ℕ) → named p i (turn_reply p (tasks_of m p) (st.partitions p).tasks k) ≡ false → is_runner k i ≡ false
-  unfolding runs turn_reply is_runner
+  unfolding runs is_tick names_task turn_reply is_runner
   by_choice p i None e = refl
   by_choice p i (Some k) e = ne_eqb i k (λ z. elim (and_cases (eqb p p) (eqb k i) e) [
     | inl f ↦ both_ways _ f (eq-eqb p p refl)

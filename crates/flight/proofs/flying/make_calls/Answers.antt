@@ -7,8 +7,8 @@ use Rattle.executive.specs.States.{clears, engine_of, sealed_module, state_in, t
 use Rattle.flight.proofs.Heard.{heard_all, heard_more}
 use Rattle.flight.proofs.flying.make_calls.Goals as goal
 
-pub push-reserved-requires : goal.push-reserved-requires
-push-reserved-requires g c = omega (arith, c.loop-call.invariant.1, c.loop-call-test.true)
+pub push_reserved-requires : goal.push_reserved-requires
+push_reserved-requires g c = omega (arith, c.loop-call.invariant.1, c.loop-call-test.true)
 
 pub loop-call-preserved : goal.loop-call-preserved
 loop-call-preserved g c =
@@ -20,11 +20,11 @@ loop-call-preserved g c =
     let cs = c.args.calls.now in
     let i = c.loop-call.call-index in
     let x = get_or cs i tick in
-    let pushed = c.push-reserved.ensures in (
+    let pushed = c.push_reserved.ensures in (
       c.ask-answer.ensures.sealed ∙ same,
       omega (arith, c.loop-call.invariant.1, pushed.len, pushed.capacity),
       heard_more (clears (told_verdict s)) (engine_of means rule s) (sealed_module s) st cs i (vec_items c.loop-call.entries) _ c.loop-call.invariant.2
-          (state_in c.ask-answer.new.running) c.ask-answer.result (vec_items c.push-reserved.new.self) c.loop-call-test.true
+          (state_in c.ask-answer.new.running) c.ask-answer.result (vec_items c.push_reserved.new.self) c.loop-call-test.true
           (c.ask-answer.ensures.answer ∙ ap (λ z. cond (clears (told_verdict z)) (reply (engine_of means rule z) (sealed_module z) st x) (Refused NotCleared)) same)
           (c.ask-answer.ensures.state ∙ ap (λ z. cond (clears (told_verdict z)) (after (engine_of means rule z) (sealed_module z) st x) st) same)
           pushed.items,

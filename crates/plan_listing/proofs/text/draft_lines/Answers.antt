@@ -8,16 +8,16 @@ use Rattle.plan_listing.specs.PlanLines.{plan_lines}
 use Rattle.plan_listing.proofs.Planned.{planned_list}
 use Rattle.plan_listing.proofs.text.draft_lines.Goals as goal
 
-pub slice-bounds-windows-end : goal.slice-bounds-windows-end
-slice-bounds-windows-end c =
+pub slice_bounds-windows-end : goal.slice_bounds-windows-end
+slice_bounds-windows-end c =
     (planned_list (plan listed (module_of c.args.draft.now) c.args.frame 8) _ _ _ c.in-Ok.ensures.answer c.in-Ok.ensures.after).within
 
-pub slice-bounds-window-lines-end : goal.slice-bounds-window-lines-end
-slice-bounds-window-lines-end c =
+pub slice_bounds-window_lines-end : goal.slice_bounds-window_lines-end
+slice_bounds-window_lines-end c =
     let held = planned_list (plan listed (module_of c.args.draft.now) c.args.frame 8) _ _ _ c.in-Ok.ensures.answer c.in-Ok.ensures.after in
-    sym (length-take-le c.in-Ok.count c.shortest-windows.new.windows held.within)
+    sym (length-take-le c.in-Ok.count c.shortest_windows.new.windows held.within)
 
 pub returns-in-Ok : goal.returns-in-Ok
 returns-in-Ok c =
     let held = planned_list (plan listed (module_of c.args.draft.now) c.args.frame 8) _ _ _ c.in-Ok.ensures.answer c.in-Ok.ensures.after in
-    IfOk-weaker c.window-lines.result _ _ (λ s e. e ∙ sym (ap plan_lines held.are)) c.window-lines.ensures
+    IfOk-weaker c.window_lines.result _ _ (λ s e. e ∙ sym (ap plan_lines held.are)) c.window_lines.ensures

@@ -1,5 +1,5 @@
 use Rattle.std.proofs.Common.{◌≡◌, ℕ, ◌+◌, ◌<◌, List, [], ◌∷◌, ◌++◌, length, get_or, take, drop, sym, ap, ◌∙◌, arith}
-use Rattle.std.proofs.lemmas.List.{append_assoc, append-nil, drop-drop, drop_more, drop_set_lt, length-take-le, take-append-drop, take_more_set}
+use Rattle.std.proofs.lemmas.List.{append_assoc, append-nil, drop-drop, drop_more, drop-set-lt, length-take-le, take-append-drop, take_more_set}
 use Rattle.std.proofs.lemmas.List.Sums.{sum_by-drop_more}
 use Rattle.model.specs.declared.window.Window.{Window}
 use Rattle.model.specs.Planning.{end_to_end, written}
@@ -19,8 +19,8 @@ loop-partition-preserved-then-share-eq0 c =
       c.loop-partition.invariant.3,
     )
 
-pub overflow-add-start : goal.overflow-add-start
-overflow-add-start c =
+pub overflow_add-start : goal.overflow_add-start
+overflow_add-start c =
     let qs : List ℕ = c.args.shares.now in
     let e = sum_by-drop_more (λ q. q) qs c.loop-partition.partition 0 c.loop-partition-test.true in
     omega (arith, e, c.loop-partition.invariant.1, c.requires.short)
@@ -42,7 +42,7 @@ loop-partition-preserved c =
       omega (arith, sum_by-drop_more (λ q. q) qs i 0 c.loop-partition-test.true, c.loop-partition.invariant.1),
       ap (λ z. z ++ later) (take_more_set ws n w l)
           ∙ (append_assoc (take n ws) (w ∷ []) later ∙ (ap (λ z. take n ws ++ z) (sym rest) ∙ c.loop-partition.invariant.2)),
-      drop_set_lt (n + 1) ws n w (omega arith) ∙ (sym (drop-drop 1 n ws) ∙ (ap (drop 1) c.loop-partition.invariant.3 ∙ drop-drop 1 n old)),
+      drop-set-lt (n + 1) ws n w (omega arith) ∙ (sym (drop-drop 1 n ws) ∙ (ap (drop 1) c.loop-partition.invariant.3 ∙ drop-drop 1 n old)),
     )
 
 pub returns : goal.returns

@@ -2,16 +2,16 @@ use Rattle.std.proofs.Common.{arith}
 use Rattle.planner.proofs.Shares.{bisects_all, lower_half, none_least, upper_half}
 use Rattle.planner.proofs.share.least_share.Goals as goal
 
-pub returns-then-not-is-enough : goal.returns-then-not-is-enough
-returns-then-not-is-enough g c = none_least _ _ _ _ c.if-not-is-enough.ensures
+pub returns-then-not-is_enough : goal.returns-then-not-is_enough
+returns-then-not-is_enough g c = none_least _ _ _ _ c.if-not-is_enough.ensures
 
 pub loop-low-init : goal.loop-low-init
-loop-low-init g c = bisects_all _ _ _ _ c.if-not-is-enough.ensures
+loop-low-init g c = bisects_all _ _ _ _ c.if-not-is_enough.ensures
 
-pub loop-low-preserved-then-is-enough : goal.loop-low-preserved-then-is-enough
-loop-low-preserved-then-is-enough g c =
-    lower_half _ _ _ _ c.loop-low.low c.loop-low.high _ c.loop-low.invariant (omega arith) (omega (arith, c.loop-low-test.true)) c.if-is-enough.ensures
+pub loop-low-preserved-then-is_enough : goal.loop-low-preserved-then-is_enough
+loop-low-preserved-then-is_enough g c =
+    lower_half _ _ _ _ c.loop-low.low c.loop-low.high _ c.loop-low.invariant (omega arith) (omega (arith, c.loop-low-test.true)) c.if-is_enough.ensures
 
 pub loop-low-preserved : goal.loop-low-preserved
 loop-low-preserved g c =
-    upper_half _ _ _ _ c.loop-low.low c.loop-low.high _ c.loop-low.invariant (omega arith) (omega (arith, c.loop-low-test.true)) c.if-is-enough.ensures
+    upper_half _ _ _ _ c.loop-low.low c.loop-low.high _ c.loop-low.invariant (omega arith) (omega (arith, c.loop-low-test.true)) c.if-is_enough.ensures

@@ -5,13 +5,13 @@ use Rattle.executive.proofs.running.Running.clear.Goals as goal
 
 pub returns-then-partition-len : goal.returns-then-partition-len
 returns-then-partition-len g c =
-    lacks g.T.Timetable.means g.D.Dispatch.rule c.args.self.now (sym c.if-not-is-cleared.ensures) c.args.partition Clear (omega arith)
+    lacks g.T.Timetable.means g.D.Dispatch.rule c.args.self.now (sym c.if-not-is_cleared.ensures) c.args.partition Clear (omega arith)
 
-pub invariant-of-self : goal.invariant-of-self
-invariant-of-self g c =
-    (stays_level g.T.Timetable.means g.D.Dispatch.rule c.args.self.now (sym c.if-not-is-cleared.ensures) c.args.partition Clear _ (omega arith) c.index-mut.ensures.value c.clear.new.self c.clear.ensures.tasks, tt)
+pub invariant_of-self : goal.invariant_of-self
+invariant_of-self g c =
+    record { level = stays_level g.T.Timetable.means g.D.Dispatch.rule c.args.self.now (sym c.if-not-is_cleared.ensures) c.args.partition Clear _ (omega arith) c.index_mut.ensures.value c.clear.new.self c.clear.ensures.tasks }
 
 pub returns : goal.returns
 returns g c =
-    asks g.T.Timetable.means g.D.Dispatch.rule c.args.self.now (sym c.if-not-is-cleared.ensures) c.args.partition Clear _ (omega arith) c.index-mut.ensures.value
+    asks g.T.Timetable.means g.D.Dispatch.rule c.args.self.now (sym c.if-not-is_cleared.ensures) c.args.partition Clear _ (omega arith) c.index_mut.ensures.value
     c.clear.new.self _ _ (c.clear.ensures.answer c.args.self.now.clock.tick) (c.clear.ensures.after c.args.self.now.clock.tick) refl refl

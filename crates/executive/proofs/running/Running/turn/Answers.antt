@@ -16,10 +16,10 @@ returns-then-p-len g c =
       clock = refl;
     }
 
-pub invariant-of-self-2 : goal.invariant-of-self-2
-invariant-of-self-2 g c =
+pub invariant_of-self-2 : goal.invariant_of-self-2
+invariant_of-self-2 g c =
     let x = c.args.self.now in
-    (same_from _ _ (kept (vec_items x.tables) _ (level_of x) c.args.p _ (omega arith) c.index-mut.ensures.value c.work.new.self c.work.ensures.tasks), tt)
+    record { level = same_from _ _ (kept (vec_items x.tables) _ (level_of x) c.args.p _ (omega arith) c.index_mut.ensures.value c.work.new.self c.work.ensures.tasks) }
 
 pub returns-in-None : goal.returns-in-None
 returns-in-None g c =
@@ -27,8 +27,8 @@ returns-in-None g c =
     let t = g.T.Timetable.means x.sealed.table in
     let rule = g.D.Dispatch.rule x.sealed.dispatch in
     record {
-      answer = λ own l. turn_answer t rule (vec_items x.tables) _ (level_of x) x.clock.tick l c.args.p own _ (omega arith) c.index-mut.ensures.value _ (c.in-None.ensures.answer t);
-      after = λ own l. turn_state t rule (vec_items x.tables) _ (level_of x) x.clock.tick l c.args.p own _ (omega arith) c.index-mut.ensures.value c.work.new.self (c.work.ensures.after t x.clock.tick own);
+      answer = λ own l. turn_answer t rule (vec_items x.tables) _ (level_of x) x.clock.tick l c.args.p own _ (omega arith) c.index_mut.ensures.value _ (c.in-None.ensures.answer t);
+      after = λ own l. turn_state t rule (vec_items x.tables) _ (level_of x) x.clock.tick l c.args.p own _ (omega arith) c.index_mut.ensures.value c.work.new.self (c.work.ensures.after t x.clock.tick own);
       same = refl;
       clock = refl;
     }
@@ -39,8 +39,8 @@ returns-in-Some g c =
     let t = g.T.Timetable.means x.sealed.table in
     let rule = g.D.Dispatch.rule x.sealed.dispatch in
     record {
-      answer = λ own l. turn_answer t rule (vec_items x.tables) _ (level_of x) x.clock.tick l c.args.p own _ (omega arith) c.index-mut.ensures.value _ (c.in-Some.ensures.answer t);
-      after = λ own l. turn_state t rule (vec_items x.tables) _ (level_of x) x.clock.tick l c.args.p own _ (omega arith) c.index-mut.ensures.value c.work.new.self (c.work.ensures.after t x.clock.tick own);
+      answer = λ own l. turn_answer t rule (vec_items x.tables) _ (level_of x) x.clock.tick l c.args.p own _ (omega arith) c.index_mut.ensures.value _ (c.in-Some.ensures.answer t);
+      after = λ own l. turn_state t rule (vec_items x.tables) _ (level_of x) x.clock.tick l c.args.p own _ (omega arith) c.index_mut.ensures.value c.work.new.self (c.work.ensures.after t x.clock.tick own);
       same = refl;
       clock = refl;
     }

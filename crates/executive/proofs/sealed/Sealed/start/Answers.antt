@@ -11,8 +11,8 @@ use Rattle.executive.proofs.Same.{same_from}
 use Rattle.executive.proofs.Sealing.{all_alike}
 use Rattle.executive.proofs.sealed.Sealed.start.Goals as goal
 
-pub invariant-of-result : goal.invariant-of-result
-invariant-of-result g c = (same_from _ _ c.in-Ok.ensures.tasks, tt)
+pub invariant_of-result : goal.invariant_of-result
+invariant_of-result g c = record { level = same_from _ _ c.in-Ok.ensures.tasks }
 
 pub returns-in-Ok : goal.returns-in-Ok
 returns-in-Ok g c =
