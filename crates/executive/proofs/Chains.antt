@@ -1,5 +1,5 @@
 -- A chain of calls of a cleared module is a flight record.
-use Rattle.std.proofs.Common.{◌≡◌, true, List, [], ◌∷◌, sym, refl, ap, ◌∙◌, ap₂}
+use Rattle.std.proofs.Common.{◌≡◌, true, List, [], ◌∷◌, refl, ap, ◌∙◌, ap₂}
 use Rattle.std.proofs.lemmas.Bool.{cond-true}
 use Rattle.model.specs.declared.entry.Entry.{Entry}
 use Rattle.model.specs.Machine.{DispatchRule, MachineState, after, reply}

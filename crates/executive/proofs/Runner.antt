@@ -1,5 +1,5 @@
 -- A tick writes the state of no task but the one that ran.
-use Rattle.std.proofs.Common.{◌≡◌, ℕ, ◌<◌, ◌≤◌, Bool, true, false, cond, ◌&&◌, eqb, Some, None, Option, sym, refl, ap, ◌∙◌, subst₂, inl, inr}
+use Rattle.std.proofs.Common.{◌≡◌, ℕ, ◌<◌, ◌≤◌, Bool, false, cond, eqb, Some, None, Option, sym, refl, ap, ◌∙◌, subst₂, inl, inr}
 use Rattle.std.proofs.lemmas.Bool.{and_cases, both_ways, cases_Bool, cases_eq, cases_lt, cond-false, cond-true, eq-eqb, eqb-false, le-ltb, lt-ltb, ne_eqb}
 use Rattle.model.specs.declared.call.Call.TheVariants.{Tick as tick}
 use Rattle.model.specs.declared.reply.Reply.{Reply}

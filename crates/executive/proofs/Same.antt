@@ -1,8 +1,8 @@
 -- Modules that the test finds the same are equal.
-use Rattle.std.proofs.Common.{◌≡◌, ℕ, true, ◌&&◌, eqb, List, [], ◌∷◌, refl, ap, ap₂, arith}
+use Rattle.std.proofs.Common.{◌≡◌, true, eqb, List, [], ◌∷◌, refl, ap₂}
 use Rattle.std.proofs.lemmas.Bool.{and_from, and_parts, eq-eqb, eqb-true, false≢true}
 use Rattle.model.specs.declared.task.Task.{Task}
-use Rattle.model.specs.Modules.{Module, task}
+use Rattle.model.specs.Modules.{Module}
 use Rattle.executive.specs.Same.{same_module, same_task, same_tasks}
 
 equal_task : (a b : Task) → same_task a b ≡ true → a ≡ b

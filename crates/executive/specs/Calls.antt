@@ -1,8 +1,7 @@
 -- What the calls of a running module answer and leave.
-use Rattle.std.specs.Prelude.{◌≡◌, ℕ, false, cond, Ok, Err, Result}
+use Rattle.std.specs.Prelude.{◌≡◌, ℕ, false, cond}
 use Rattle.model.specs.declared.call.Call.{Call}
 use Rattle.model.specs.declared.call.Call.TheVariants.{Tick}
-use Rattle.model.specs.declared.refusal.Refusal.{Refusal}
 use Rattle.model.specs.declared.refusal.Refusal.TheVariants.{NotCleared}
 use Rattle.model.specs.declared.reply.Reply.{Reply}
 use Rattle.model.specs.declared.reply.Reply.TheVariants as reply

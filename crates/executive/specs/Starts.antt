@@ -1,6 +1,6 @@
 -- Tables in which nothing has happened.
 use Rattle.std.specs.Prelude.{◌≡◌, List, map, length, replicate}
-use Rattle.model.specs.Machine.{PartitionState, untouched}
+use Rattle.model.specs.Machine.{untouched}
 use Rattle.model.specs.Modules.{Module}
 use Rattle.jobs.specs.declared.job_table.JobTable.{JobTable}
 use Rattle.jobs.specs.Tables.{state_of, tasks_in}

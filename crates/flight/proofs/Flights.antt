@@ -1,10 +1,9 @@
 -- From what was heard of a sealed module to what is promised of its flight.
-use Rattle.std.proofs.Common.{◌≡◌, ℕ, Bool, true, false, List, vec_items, sym, ap, ◌∙◌}
+use Rattle.std.proofs.Common.{◌≡◌, ℕ, Bool, true, List, vec_items, ap, ◌∙◌}
 use Rattle.model.specs.declared.call.Call.{Call}
 use Rattle.model.specs.declared.entry.Entry.{Entry}
 use Rattle.model.specs.FlightRecords.{calls_of}
 use Rattle.model.specs.Machine.{DispatchRule, Engine, MachineState, by_order, new}
-use Rattle.model.specs.Modules.{Module}
 use Rattle.model.specs.Orders.{Order}
 use Rattle.model.specs.Promises.{executive}
 use Rattle.model.specs.Timetables.{LawfulTimetable, Timetable}

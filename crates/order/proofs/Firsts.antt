@@ -1,9 +1,9 @@
 -- The task that the choice gives is the one that goes first.
-use Rattle.std.proofs.Common.{◌≡◌, ℕ, zero, suc, ◌<◌, Bool, true, false, cond, not, ◌⊎◌, List, [], ◌∷◌, length, get_or, Some, None, sym, refl, ap, ◌∙◌, subst, inl, inr, arith}
+use Rattle.std.proofs.Common.{◌≡◌, ℕ, zero, suc, ◌<◌, true, false, not, ◌⊎◌, List, [], ◌∷◌, length, get_or, Some, None, sym, refl, ap, ◌∙◌, subst, inl, inr, arith}
 use Rattle.std.proofs.lemmas.Bool.{both_ways, cases_Bool}
 use Rattle.model.specs.declared.task_record.TaskRecord.{TaskRecord}
 use Rattle.model.specs.Orders.{Order, LawfulOrder}
-use Rattle.order.specs.Choices.{FirstAmong, GoesFirst, better, first_of}
+use Rattle.order.specs.Choices.{FirstAmong, GoesFirst, first_of}
 
 module _ (order : Order) (ok : LawfulOrder order) (p : ℕ) where
   -- r is the first of a and bs

@@ -1,6 +1,6 @@
 -- Ranks that are apart tell the tasks of a partition apart, and one that is not new shows that they are not.
-use Rattle.std.specs.Prelude.{◌≡◌, ℕ, suc, ◌+◌, ◌<◌, Bool, true, false, not, ◌&&◌, List, [], ◌==◌, ◌≢◌, nat_lt, slice_index, slice_index_or, refl}
-use Rattle.std.proofs.Common.{ap, ◌∙◌, inl, inr, add-one, arith}
+use Rattle.std.specs.Prelude.{◌≡◌, ℕ, ◌+◌, ◌<◌, Bool, true, false, not, List, [], ◌==◌, ◌≢◌, nat_lt, slice_index, slice_index_or}
+use Rattle.std.proofs.Common.{inl, inr, add-one}
 use Rattle.std.proofs.lemmas.Bool.{and_from, both_ways, cases_Bool, cases_order, cond-true, eq-eqb, lt-ltb, not-true}
 use Rattle.model.specs.Ranges.{all_below}
 use Rattle.model.proofs.Ranges.{all_from}

@@ -1,5 +1,5 @@
 -- Turns of equal length are a lawful timetable.
-use Rattle.std.specs.Prelude.{◌≡◌, ℕ, ◌*◌, ◌/◌, ◌<◌, ◌≤◌, Some}
+use Rattle.std.specs.Prelude.{◌≡◌, ℕ, ◌*◌, ◌/◌, ◌<◌, ◌≤◌}
 use Rattle.std.proofs.Common.{div-lt_iff_lt-mul, mul-pos, arith}
 use Rattle.model.specs.Timetables.{LawfulTimetable}
 use Rattle.round_robin.specs.Turns.{turns}

@@ -1,5 +1,5 @@
 -- Turns of equal length.
-use Rattle.std.specs.Prelude.{ℕ, ◌*◌, ◌/◌, Bool, cond, ◌&&◌, Some, None, Option, nat_le}
+use Rattle.std.specs.Prelude.{ℕ, ◌*◌, ◌/◌, cond, ◌&&◌, Some, None, Option, nat_le}
 use Rattle.model.specs.Timetables.{Timetable}
 use Rattle.round_robin.specs.declared.turns.RoundRobin.{RoundRobin}
 

@@ -1,5 +1,5 @@
 -- What is opened, by whether its check grants it.
-use Rattle.std.proofs.Common.{◌≡◌, ℕ, ◌%◌, true, false, refl, ap}
+use Rattle.std.proofs.Common.{◌≡◌, ℕ, ◌%◌, true, refl, ap}
 use Rattle.std.proofs.lemmas.Bool.{false≢true}
 use Rattle.model.specs.Answers.{Answer, granted, refused}
 use Rattle.model.specs.Timetables.{Timetable, opened, owner_at}

@@ -5,7 +5,7 @@ use Rattle.model.specs.declared.verdict.LateTask.{LateTask}
 use Rattle.model.specs.Modules.{Module}
 use Rattle.model.specs.Orders.{Order}
 use Rattle.model.specs.Timetables.{Timetable}
-use Rattle.model.specs.Verdicts.{finding, foreign_place}
+use Rattle.model.specs.Verdicts.{finding}
 use Rattle.draft.specs.Drafts.{module_of}
 use Rattle.analysis.specs.declared.findings.Findings.{Findings}
 use Rattle.analysis.specs.declared.owners.Owners.{Owners}

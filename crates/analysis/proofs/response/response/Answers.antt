@@ -1,7 +1,7 @@
 use Rattle.std.proofs.Common.{◌≡◌, ℕ, ◌<◌, ◌≤◌, Bool, true, sym, refl, ap, ◌∙◌, subst, arith}
 use Rattle.std.proofs.lemmas.Bool.Decides.{when_true, when_false}
 use Rattle.model.specs.InTime.{D, Partition, partition_of, PassesIn}
-use Rattle.model.specs.Modules.{task, task_of}
+use Rattle.model.specs.Modules.{task_of}
 use Rattle.model.proofs.Gaps.{passes_at}
 use Rattle.analysis.specs.declared.stretch.Stretch.{Stretch}
 use Rattle.analysis.specs.Places.{ticks_of}

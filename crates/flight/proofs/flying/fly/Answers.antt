@@ -24,7 +24,7 @@ returns-in-Ok-start g c =
     (subst (SealedAs (means a.table) (goes a.order) a.draft a.table a.order) (sym (kept ∙ started.same_sealed)) c.seal-sealed.ensures)
     (g.met.T.Timetable.lawful a.table)
     (c.make_calls.ensures.entries
-    ∙ ap (λ xs. xs ++ heard run.sealed (state_in run) a.calls.now) c.in-Ok.ensures.0
+    ∙ ap (λ xs. xs ++ heard run.sealed (state_in run) a.calls.now) c.in-Ok.ensures.items
     ∙ ap (λ st. heard run.sealed st a.calls.now) started.state
     ∙ ap (λ s. heard s (new a.tick) a.calls.now) (sym kept))
 
@@ -35,4 +35,4 @@ returns-in-Err g c =
     let goes = g.O.LocalOrder.order in
     flown means goes a.draft a.table a.order a.tick a.calls.now _
     (subst (SealedAs (means a.table) (goes a.order) a.draft a.table a.order) (sym c.in-Err.ensures.same) c.seal-sealed.ensures)
-    (g.met.T.Timetable.lawful a.table) c.in-Ok.ensures.0
+    (g.met.T.Timetable.lawful a.table) c.in-Ok.ensures.items

@@ -1,4 +1,4 @@
-use Rattle.std.proofs.Common.{◌≡◌, cond, get_or, vec_items, ap, ◌∙◌, arith}
+use Rattle.std.proofs.Common.{cond, get_or, vec_items, ap, ◌∙◌, arith}
 use Rattle.model.specs.declared.call.Call.TheVariants.{Tick as tick}
 use Rattle.model.specs.declared.refusal.Refusal.TheVariants.{NotCleared}
 use Rattle.model.specs.declared.reply.Reply.TheVariants.{Refused}

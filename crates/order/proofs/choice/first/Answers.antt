@@ -1,4 +1,4 @@
-use Rattle.std.proofs.Common.{Some, None, sym, ◌∙◌, subst, arith}
+use Rattle.std.proofs.Common.{sym, ◌∙◌, subst}
 use Rattle.std.proofs.lemmas.List.{at_drop_all, at_drop_more}
 use Rattle.model.specs.declared.task_record.TaskRecord.{TaskRecord}
 use Rattle.order.specs.Choices.{GoesFirst, first_of}

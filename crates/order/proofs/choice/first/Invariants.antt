@@ -1,5 +1,5 @@
-use Rattle.std.proofs.Common.{◌≡◌, take, drop, None}
-use Rattle.order.specs.Choices.{first_of, GoesFirst}
+use Rattle.std.proofs.Common.{◌≡◌, drop, None}
+use Rattle.order.specs.Choices.{first_of}
 use Rattle.order.proofs.choice.first.Given as goal
 
 abbrev pub invariant-loop-task : goal.invariant-loop-task

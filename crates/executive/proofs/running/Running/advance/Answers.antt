@@ -1,6 +1,6 @@
-use Rattle.std.proofs.Common.{◌≡◌, ℕ, ◌+◌, None, vec_items, sym, refl, ap, ◌∙◌}
+use Rattle.std.proofs.Common.{◌≡◌, None, vec_items, sym, refl, ap, ◌∙◌}
 use Rattle.model.specs.Timetables.{owner_at}
-use Rattle.executive.specs.States.{engine_of, sealed_module, state_in}
+use Rattle.executive.specs.States.{sealed_module, state_in}
 use Rattle.executive.proofs.Calls.{answered, clock_on, clock_stops, level_of}
 use Rattle.executive.proofs.Tables.{last_answer, last_state, spare_answer, spare_state, state}
 use Rattle.executive.proofs.running.Running.advance.Goals as goal

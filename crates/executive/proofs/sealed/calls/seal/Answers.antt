@@ -1,9 +1,9 @@
-use Rattle.std.proofs.Common.{sym, refl, ap, ◌∙◌, subst, arith}
+use Rattle.std.proofs.Common.{sym, refl, ap, ◌∙◌, subst}
 use Rattle.analysis.proofs.Verdicts.{verdict_told}
 use Rattle.analysis.specs.Findings.{told_by}
 use Rattle.draft.proofs.Modules.{draft_within}
 use Rattle.draft.specs.Drafts.{module_of}
-use Rattle.model.specs.Verdicts.{Lawful, verdict_on}
+use Rattle.model.specs.Verdicts.{Lawful}
 use Rattle.order.proofs.Laws.{lawful_by_keys}
 use Rattle.promises.specs.Promises.{ExactVerdict}
 use Rattle.promises.proofs.Promises.{exact_verdict}

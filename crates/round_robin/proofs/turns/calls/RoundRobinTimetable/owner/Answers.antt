@@ -1,4 +1,4 @@
-use Rattle.std.proofs.Common.{◌*◌, ◌/◌, ◌%◌, ◌<◌, ◌≤◌, refl, mod-lt, arith}
+use Rattle.std.proofs.Common.{◌*◌, ◌≤◌, refl, mod-lt, arith}
 use Rattle.model.specs.Timetables.{owner_at}
 use Rattle.round_robin.specs.declared.turns.RoundRobin.{RoundRobin}
 use Rattle.round_robin.specs.EqualTurns.{in_turn, some_place}

@@ -1,4 +1,4 @@
-use Rattle.std.proofs.Common.{◌%◌, sym, refl, ◌∙◌, subst}
+use Rattle.std.proofs.Common.{sym, refl, ◌∙◌, subst}
 use Rattle.timetable.specs.Lists.{InSequence}
 use Rattle.timetable.proofs.Opened.{owner_granted}
 use Rattle.timetable.proofs.Sequences.{in_sequence}
