@@ -3,9 +3,8 @@ use Rattle.std.proofs.Common.{◌≡◌, true, List, [], ◌∷◌, refl, ap, �
 use Rattle.std.proofs.lemmas.Bool.{cond-true}
 use Rattle.model.specs.declared.entry.Entry.{Entry}
 use Rattle.model.specs.Machine.{DispatchRule, MachineState, after, reply}
-use Rattle.model.specs.FlightRecords.{flight}
+use Rattle.model.specs.FlightRecords.{flight, calls_of}
 use Rattle.model.specs.Timetables.{Timetable}
-use Rattle.model.specs.FlightRecords.{calls_of}
 use Rattle.executive.specs.declared.running.Running.{Running}
 use Rattle.executive.specs.declared.sealed.Sealed.{Sealed}
 use Rattle.executive.specs.Sealing.{Chain}

@@ -7,8 +7,7 @@ use Rattle.model.specs.declared.entry.Entry.{Entry}
 use Rattle.model.specs.declared.refusal.Refusal.TheVariants.{NotCleared}
 use Rattle.model.specs.declared.reply.Reply.{Reply}
 use Rattle.model.specs.declared.reply.Reply.TheVariants.{Refused}
-use Rattle.model.specs.FlightRecords.{calls_of}
-use Rattle.model.specs.FlightRecords.{flight}
+use Rattle.model.specs.FlightRecords.{calls_of, flight}
 use Rattle.model.specs.Machine.{Engine, MachineState, after, reply}
 use Rattle.model.specs.Modules.{Module}
 use Rattle.flight.specs.Flights.{all_refused, heard}

@@ -5,8 +5,7 @@ use Rattle.model.specs.declared.entry.Entry.{Entry}
 use Rattle.model.specs.declared.refusal.Refusal.TheVariants.{NotCleared}
 use Rattle.model.specs.declared.reply.Reply.TheVariants.{Refused}
 use Rattle.promises.specs.Promises.{Promised}
-use Rattle.model.specs.FlightRecords.{calls_of}
-use Rattle.model.specs.FlightRecords.{flight}
+use Rattle.model.specs.FlightRecords.{calls_of, flight}
 use Rattle.model.specs.Promises.{executive}
 use Rattle.model.specs.Machine.{Engine, MachineState, after, by_order, new, reply}
 use Rattle.model.specs.Modules.{Module}

@@ -5,7 +5,7 @@ ghost use Rattle.rank_table.specs.Apart.{apart_below, apart, all_apart, rank};
 ghost use Rattle.rank_table.specs.Tables.{made, allowed_ranks};
 ghost use Rattle.model.proofs.Orders.{orders_lawful};
 ghost use Rattle.rank_table.specs.ApartLemmas.{same_rank};
-ghost use Rattle.std.proofs.Common.{rules, arith};
+ghost use Rattle.std.proofs.Common.{rules};
 
 use super::RankTable;
 use model::TaskRecord;
@@ -59,11 +59,11 @@ impl LocalOrder for RankTable {
 
     ghost precedes = { λ _. nat_lt };
 
-    ghost decides = { first_of (Prim.search rules, Prim.grind (arith, Self.row.coded.inj)) };
+    ghost decides = { Prim.search rules };
 
-    ghost irreflexive = { first_of (Prim.search rules, Prim.grind (arith, Self.row.coded.inj)) };
+    ghost irreflexive = { Prim.search rules };
 
-    ghost transitive = { first_of (Prim.search rules, Prim.grind (arith, Self.row.coded.inj)) };
+    ghost transitive = { Prim.search rules };
 
     ghost total = { λ t. (orders_lawful.by_ranks (rank t.ranks) (λ p i j few l m e. same_rank t.ranks t.apart p few i j l m e)).one_first };
 

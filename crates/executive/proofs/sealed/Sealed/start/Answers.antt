@@ -1,9 +1,8 @@
 use Rattle.std.proofs.Common.{◌≡◌, get_or, vec_items, refl, ap, ◌∙◌}
 use mathlib.Core.Path.{fun_ext}
 use Rattle.model.specs.Machine.{MachineState, new, untouched}
-use Rattle.model.specs.FlightRecords.{flight}
+use Rattle.model.specs.FlightRecords.{flight, calls_of}
 use Rattle.draft.proofs.Modules.{draft_within}
-use Rattle.model.specs.FlightRecords.{calls_of}
 use Rattle.promises.proofs.Promises.{promised_by}
 use Rattle.executive.specs.States.{engine_of, partitions_of, sealed_module}
 use Rattle.executive.proofs.Chains.{chain_flown}
