@@ -20,7 +20,7 @@ use Rattle.model.specs.declared.refusal.Refusal.TheVariants.{NotCleared, NoSuchP
 use Rattle.model.specs.declared.call.Request.TheVariants.{Release as release, End as end, Fault as fault, Clear as clear}
 use Rattle.model.specs.declared.call.Call.TheVariants.{Tick as tick, Of as call}
 use Rattle.model.specs.declared.reply.Reply.TheVariants.{Refused as denied, Spare as spare, Idle as idle, Ran as ran, Due as due, Count as count, Entry as entry, Emptied as emptied}
-use Rattle.model.specs.declared.reply.Progress.TheVariants.{Open as still_Open, Spent as spent}
+use Rattle.model.specs.declared.reply.Progress.TheVariants.{Open as still_open, Spent as spent}
 
 -- a window by its partition, start and length
 abbrev pub window : ℕ → ℕ → ℕ → Window
@@ -126,10 +126,10 @@ pub record WorkedCases : Type 0 where
   pub foreign : judged (share_timetable 10 (4 ∷ 1 ∷ 0 ∷ 1 ∷ [])) listed (module_A 19) ≡ refused 21 (5 ∷ [])
   -- the first frame of A, all tasks released
   pub first_frame : answers_A 19 0 (call 0 (release 0) ∷ call 0 (release 1) ∷ call 1 (release 0) ∷ replicate 10 tick) ≡
-      due 10 ∷ due 19 ∷ due 10 ∷ ran 0 0 still_Open ∷ ran 0 0 spent ∷ ran 0 1 still_Open ∷ ran 0 1 still_Open ∷ ran 1 0 spent ∷ replicate 5 spare
+      due 10 ∷ due 19 ∷ due 10 ∷ ran 0 0 still_open ∷ ran 0 0 spent ∷ ran 0 1 still_open ∷ ran 0 1 still_open ∷ ran 1 0 spent ∷ replicate 5 spare
   -- release (0, 0) at tick 5: again at 14 is refused, at 15 accepted
   pub too_soon : answers_A 19 5 (call 0 (release 0) ∷ replicate 9 tick ++ (call 0 (release 0) ∷ tick ∷ call 0 (release 0) ∷ [])) ≡
-      due 15 ∷ replicate 5 spare ++ (ran 0 0 still_Open ∷ ran 0 0 spent ∷ idle 0 ∷ idle 0 ∷ denied TooSoon ∷ idle 1 ∷ due 25 ∷ [])
+      due 15 ∷ replicate 5 spare ++ (ran 0 0 still_open ∷ ran 0 0 spent ∷ idle 0 ∷ idle 0 ∷ denied TooSoon ∷ idle 1 ∷ due 25 ∷ [])
   -- with deadline 18 task 1 is late as `now` becomes 21, so the record has a late job
   pub late_at_21 : (late_state.now ≡ 20) × (late engine_A 0 (tasks_of (module_A 18) 0) 20 (late_state.partitions 0).tasks 1 ≡ true)
   pub late_record_A : LateRecord engine_A (module_A 18) 3 (flight engine_A (module_A 18) (new 3) (late_calls ++ (tick ∷ [])))
@@ -163,7 +163,7 @@ pub record WorkedCases : Type 0 where
   pub lost_stops : (noted full (record { refusal = TooSoon; task = 0; tick = 0 })).lost ≡ 65535
   -- an ended job answers its count
   pub ended : answers_A 19 0 (call 0 (release 1) ∷ tick ∷ tick ∷ call 0 (end 1) ∷ call 0 (end 1) ∷ []) ≡
-      due 19 ∷ ran 0 1 still_Open ∷ ran 0 1 still_Open ∷ count 2 ∷ denied NoOpenJob ∷ []
+      due 19 ∷ ran 0 1 still_open ∷ ran 0 1 still_open ∷ count 2 ∷ denied NoOpenJob ∷ []
   -- the last tick, and a start past it
   pub at_the_end : answers_A 19 (last_tick - 1) (tick ∷ tick ∷ []) ≡ spare ∷ denied LastTick ∷ []
   pub stays_at_the_end : (after engine_A (module_A 19) (new last_tick) tick).now ≡ last_tick

@@ -18,7 +18,7 @@ use Rattle.model.specs.declared.refusal.Refusal.TheVariants.{NoSuchPartition, No
 use Rattle.model.specs.declared.call.Request.TheVariants.{Release as release, End as end, Fault as fault, Clear as clear}
 use Rattle.model.specs.declared.call.Call.TheVariants.{Tick as tick, Of as call}
 use Rattle.model.specs.declared.reply.Reply.TheVariants.{Refused as refused, Spare as spare, Idle as idle, Ran as ran, Due as due, Count as count, Entry as entry, Emptied as emptied}
-use Rattle.model.specs.declared.reply.Progress.TheVariants.{Open as still_Open, Spent as spent}
+use Rattle.model.specs.declared.reply.Progress.TheVariants.{Open as still_open, Spent as spent}
 
 -- the last tick
 abbrev pub last_tick : ℕ
@@ -120,7 +120,7 @@ ticked g p ks now h =
 -- how a job stands after it ran
 unfoldable pub progress : Option Job → Progress
 progress None = spent
-progress (Some b) = still_Open
+progress (Some b) = still_open
 
 -- what the tick answers by the chosen task of its owner p
 unfoldable pub turn_reply : ℕ → List Task → (ℕ → TaskState) → Option ℕ → Reply

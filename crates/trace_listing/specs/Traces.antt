@@ -2,14 +2,14 @@
 use Rattle.std.specs.Prelude.{ℕ, ◌+◌, cond, List, [], ◌∷◌, ◌++◌, codes, decimal}
 use Rattle.model.specs.declared.entry.Entry.{Entry}
 use Rattle.model.specs.declared.reply.Progress.{Progress}
-use Rattle.model.specs.declared.reply.Progress.TheVariants.{Open as still_Open, Spent as spent}
+use Rattle.model.specs.declared.reply.Progress.TheVariants.{Open as still_open, Spent as spent}
 use Rattle.model.specs.declared.reply.Reply.{Reply}
 use Rattle.model.specs.declared.reply.Reply.TheVariants.{Refused as refused, Spare as spare, Idle as idle, Ran as ran, Due as due, Count as count, Entry as fault_entry, Emptied as emptied}
 use Rattle.model.specs.FlightRecords.{ticks}
 
 -- how a job stands after it ran
 abbrev pub job_name : Progress → List ℕ
-job_name still_Open = codes "open"
+job_name still_open = codes "open"
 job_name spent = codes "spent"
 
 -- a line: the tick, and its owner, task and job
