@@ -4,7 +4,6 @@ use model::Window;
 use order::{ByDeadline, Listed};
 use planner::{PlanRefusal, shortest_windows};
 use std::alloc::{AllocError, Global};
-use std::process::Abort;
 use std::test::Fail;
 
 const UNTOUCHED: Window = Window {
@@ -13,18 +12,22 @@ const UNTOUCHED: Window = Window {
     length: 9,
 };
 
-// The windows that are wanted as (partition, start, length), then as many untouched ones as the list has left.
-fn check_list(rt: &impl Abort, list: &[Window], wanted: &[(u8, u16, u16)]) {
+// Whether a list has the windows that are wanted as (partition, start, length), and then as many untouched ones as it has left.
+fn is_list(list: &[Window], wanted: &[(u8, u16, u16)]) -> bool {
     for (place, window) in list.iter().enumerate() {
-        match wanted.get(place) {
-            Some((partition, start, length)) => {
-                assert_eq!(rt; window.partition, *partition);
-                assert_eq!(rt; window.start, *start);
-                assert_eq!(rt; window.length, *length);
-            }
-            None => assert_eq!(rt; *window, UNTOUCHED),
+        let want = match wanted.get(place) {
+            Some((partition, start, length)) => Window {
+                partition: *partition,
+                start: *start,
+                length: *length,
+            },
+            None => UNTOUCHED,
+        };
+        if *window != want {
+            return false;
         }
     }
+    true
 }
 
 // partitions, a frame, and the windows
@@ -51,7 +54,7 @@ fn plans(rt: HostRuntime) -> Result<(), Fail> {
         let mut list = [UNTOUCHED; 9];
         let count = shortest_windows(&draft, &Listed, frame, &mut list)?;
         assert_eq!(rt; usize::from(count), wanted.len());
-        check_list(&rt, &list, wanted);
+        assert!(rt; is_list(&list, wanted));
     }
     Ok(())
 }
@@ -61,7 +64,7 @@ fn plan_in_deadline_order(rt: HostRuntime) -> Result<(), Fail> {
     let draft = draft_of(rt.alloc(), &EXCHANGED)?;
     let mut list = [UNTOUCHED; 8];
     assert_eq!(rt; shortest_windows(&draft, &ByDeadline, 10, &mut list), Ok(2));
-    check_list(&rt, &list, &[(0, 0, 4), (1, 4, 1)]);
+    assert!(rt; is_list(&list, &[(0, 0, 4), (1, 4, 1)]));
     Ok(())
 }
 
@@ -114,7 +117,7 @@ fn refusals(rt: HostRuntime) -> Result<(), Fail> {
         let plan = shortest_windows(&draft, &Listed, frame, list.as_mut_slice());
         assert_eq!(rt; plan, Err(refusal));
         assert_eq!(rt; list.len(), places);
-        check_list(&rt, list.as_slice(), &[]);
+        assert!(rt; is_list(list.as_slice(), &[]));
     }
     Ok(())
 }

@@ -8,7 +8,7 @@ use std::test::Fail;
 fn released_again_after_a_period(rt: HostRuntime) -> Result<(), Fail> {
     let mut running = running(rt.alloc(), 5)?;
     assert!(rt; running.release(0, 0) == Ok(15));
-    wait(&rt, &mut running, 9);
+    assert!(rt; wait(&mut running, 9));
     assert!(rt; running.release(0, 0) == Err(Refusal::TooSoon));
     let entry = Fault {
         refusal: Refusal::TooSoon,
@@ -16,7 +16,7 @@ fn released_again_after_a_period(rt: HostRuntime) -> Result<(), Fail> {
         tick: 14,
     };
     assert!(rt; running.fault(0, 0) == Ok(entry));
-    wait(&rt, &mut running, 1);
+    assert!(rt; wait(&mut running, 1));
     assert!(rt; running.release(0, 0) == Ok(25));
     Ok(())
 }
@@ -76,7 +76,7 @@ fn ends_count(rt: HostRuntime) -> Result<(), Fail> {
     for ticks in 0..3u16 {
         let mut running = running(rt.alloc(), 0)?;
         assert!(rt; running.release(0, 1) == Ok(19));
-        wait(&rt, &mut running, u64::from(ticks));
+        assert!(rt; wait(&mut running, u64::from(ticks)));
         assert!(rt; running.end(0, 1) == Ok(ticks));
         assert!(rt; running.end(0, 1) == Err(Refusal::NoOpenJob));
         assert!(rt; running.tick() == Ok(Turn::Idle(0)));
@@ -89,7 +89,7 @@ fn ends_count(rt: HostRuntime) -> Result<(), Fail> {
 fn spent_jobs_have_no_end(rt: HostRuntime) -> Result<(), Fail> {
     let mut running = running(rt.alloc(), 0)?;
     assert!(rt; running.release(0, 1) == Ok(19));
-    wait(&rt, &mut running, 3);
+    assert!(rt; wait(&mut running, 3));
     assert!(rt; running.end(0, 1) == Err(Refusal::NoOpenJob));
     Ok(())
 }

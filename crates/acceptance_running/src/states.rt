@@ -34,7 +34,7 @@ fn stopped_and_started(rt: HostRuntime) -> Result<(), Fail> {
     let mut first = running(rt.alloc(), 0)?;
     assert!(rt; first.release(0, 0) == Ok(10));
     assert!(rt; first.release(0, 2) == Err(Refusal::NoSuchTask));
-    wait(&rt, &mut first, 1);
+    assert!(rt; wait(&mut first, 1));
     let sealed = first.stop();
     assert!(rt; sealed.verdict() == Verdict::Cleared);
     let mut second = started(sealed, rt.alloc(), 5)?;
