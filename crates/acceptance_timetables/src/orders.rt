@@ -2,7 +2,7 @@
 use model::{Task, TaskRecord};
 use order::{ByDeadline, Listed, LocalOrder, first};
 
-pub const fn record(number: u8, deadline: u16) -> TaskRecord {
+pub(crate) const fn record(number: u8, deadline: u16) -> TaskRecord {
     TaskRecord {
         number,
         task: Task {

@@ -1,5 +1,5 @@
 -- What is found on a module, from which its verdict is told.
-use Rattle.std.specs.Prelude.{ℕ, cond, map, get_or, None, Option, nat_lt, slice_index_or}
+use Rattle.std.specs.Prelude.{ℕ, cond, map, None, Option, nat_lt, slice_index_or}
 use Rattle.std.specs.List.{range_with_len}
 use Rattle.model.specs.declared.verdict.LateTask.{LateTask}
 use Rattle.model.specs.declared.verdict.Verdict.{Verdict}
@@ -16,7 +16,7 @@ findings_on given running order m = record { foreign = foreign_place given m; pa
 
 -- the verdict that the findings tell
 abbrev pub told_by : Findings → Verdict
-told_by f = verdict_by f.foreign (first_found (λ p. get_or f.partitions p None) 8)
+told_by f = verdict_by f.foreign (first_found (λ p. slice_index_or f.partitions p None) 8)
 
 -- the finding on partition p, of 0 to 7
 abbrev pub found_on : Findings → ℕ → Option LateTask

@@ -1,5 +1,5 @@
 -- The task that goes first.
-use Rattle.std.specs.Prelude.{◌≡◌, ℕ, ◌<◌, Bool, true, false, cond, List, [], ◌∷◌, length, get_or, Some, None, Option, ◌≢◌, slice_index_or}
+use Rattle.std.specs.Prelude.{◌≡◌, ℕ, ◌<◌, Bool, true, false, cond, List, [], ◌∷◌, length, Some, None, Option, ◌≢◌, slice_index_or}
 use Rattle.model.specs.declared.task_record.TaskRecord.{TaskRecord}
 use Rattle.model.specs.Orders.{Order, CanExist}
 
@@ -17,7 +17,7 @@ first_of goes best (b ∷ bs) = first_of goes (Some (better goes best b)) bs
 pub record FirstAmong (order : Order) (p : ℕ) (bs : List TaskRecord) (a : TaskRecord) : Type 0 where
   pub member : (k : ℕ) × (k < length bs) × (slice_index_or bs k a ≡ a)
   pub none_before : (k : ℕ) → k < length bs → order p (slice_index_or bs k a) a ≡ false
-  pub before_others : (k : ℕ) → k < length bs → p < 8 → CanExist a → CanExist (slice_index_or bs k a) → ((get_or bs k a).number ≢ a.number) → order p a (slice_index_or bs k a) ≡ true
+  pub before_others : (k : ℕ) → k < length bs → p < 8 → CanExist a → CanExist (slice_index_or bs k a) → ((slice_index_or bs k a).number ≢ a.number) → order p a (slice_index_or bs k a) ≡ true
 
 -- there is such a task unless there is none at all
 abbrev pub GoesFirst : Order → ℕ → List TaskRecord → Option TaskRecord → Type 0

@@ -1,5 +1,5 @@
 // The window of a place, by bisection: the first that ends after the place, if it has begun by then.
-ghost use Rattle.std.specs.Prelude.{◌≡◌, leb, if◌then◌else◌, Some, None, nat_le};
+ghost use Rattle.std.specs.Prelude.{◌≡◌, if◌then◌else◌, Some, None, nat_le};
 ghost use Rattle.model.specs.Timetables.{window_owner};
 ghost use Rattle.model.specs.WindowLists.{end_of};
 ghost use Rattle.timetable.specs.Lists.{InSequence};
@@ -13,7 +13,7 @@ fn ended(window: Window, place: u64) -> bool
 }
 
 fn owner_if_begun(window: Window, place: u64) -> Option<u8>
-    ensures { result ≡ (if leb window.start place then Some window.partition else None) }
+    ensures { result ≡ (if nat_le window.start place then Some window.partition else None) }
 {
     if u64::from(window.start) <= place {
         Some(window.partition)
