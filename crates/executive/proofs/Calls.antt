@@ -10,7 +10,6 @@ use Rattle.model.specs.declared.reply.Reply.{Reply}
 use Rattle.model.specs.declared.reply.Reply.TheVariants.{Refused}
 use Rattle.model.specs.Machine.{DispatchRule, after, last_tick, reply}
 use Rattle.model.specs.Timetables.{Timetable}
-use Rattle.model.proofs.Options.{none_some}
 use Rattle.jobs.specs.declared.job_table.JobTable.{JobTable}
 use Rattle.jobs.specs.Tables.{answer_to, state_after, state_of, tasks_in}
 use Rattle.jobs.specs.Ticks.{next_tick}
@@ -36,12 +35,12 @@ answered means rule old new c r v a s e = record { answer = a ∙ sym (cond-true
 pub clock_on : (u v : ℕ) → Some v ≡ next_tick u → (u < last_tick) × (v ≡ u + 1)
 clock_on u v e = elim (cases_lt u last_tick) [
   | inl l ↦ (l, (let z : Some v ≡ Some (u + 1) = e ∙ cond-true _ _ _ (lt-ltb u last_tick l) in cc))
-  | inr l ↦ absurd (none_some (sym (e ∙ cond-false _ _ _ (le-ltb u last_tick l))))
+  | inr l ↦ cc (sym (e ∙ cond-false _ _ _ (le-ltb u last_tick l)))
 ]
 
 pub clock_stops : (u : ℕ) → None ≡ next_tick u → last_tick ≤ u
 clock_stops u e = elim (cases_lt u last_tick) [
-  | inl l ↦ absurd (none_some (e ∙ cond-true _ _ _ (lt-ltb u last_tick l)))
+  | inl l ↦ cc (e ∙ cond-true _ _ _ (lt-ltb u last_tick l))
   | inr l ↦ l
 ]
 

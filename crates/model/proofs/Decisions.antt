@@ -9,7 +9,6 @@ use Rattle.model.specs.Ranges.{all_below}
 use Rattle.model.specs.Timetables.{Timetable}
 use Rattle.model.specs.Verdicts.{Cleared, NamesOwn, cleared, owner_known}
 use Rattle.model.proofs.Limits.{has_part}
-use Rattle.model.proofs.Options.{none_some}
 use Rattle.model.proofs.Ranges.{all_from, some_from, to_all, to_some}
 
 pub decides_passes : (p : Partition) (i s : ℕ) → Decides (passes p i s) (Passes p i s)
@@ -39,7 +38,7 @@ refuted false h = refl
 module _ (m : Module) where
   pub known : (o : Option ℕ) → owner_known m o ≡ true → (p : ℕ) → o ≡ Some p → p < length m
   unfolding owner_known
-  known None h p e = absurd (none_some e)
+  known None h p e = cc
   known (Some q) h p e = let z : q ≡ p = cc in omega (arith, ltb-true q (length m) h)
 
   to_known : (o : Option ℕ) → ((p : ℕ) → o ≡ Some p → p < length m) → owner_known m o ≡ true

@@ -2,7 +2,6 @@
 use Rattle.std.proofs.Common.{◌≡◌, ℕ, zero, suc, ◌<◌, ◌≤◌, Bool, true, false, cond, ◌⊎◌, Some, None, Option, sym, refl, ap, ◌∙◌, ap₂, inl, inr, arith}
 use Rattle.std.proofs.lemmas.Bool.{cases_eq, both_ways, cond_both}
 use Rattle.model.specs.Ranges.{first_of, first_such}
-use Rattle.model.proofs.Options.{none_some}
 
 -- k passes, and goes before every other number below m that passes
 pub record First (goes : ℕ → ℕ → Bool) (test : ℕ → Bool) (m k : ℕ) : Type 0 where
@@ -93,7 +92,7 @@ picked goes n (Some j) ih = cond_both (goes n j) n j (λ x. x < suc n) (λ _. om
 
 pub first_below : (goes : ℕ → ℕ → Bool) (test : ℕ → Bool) (n k : ℕ) → first_such goes test n ≡ Some k → k < n
 unfolding first_such
-first_below goes test zero k e = absurd (none_some e)
+first_below goes test zero k e = cc
 first_below goes test (suc n) k e = go (test n) (first_such goes test n) (first_below goes test n) e
   where
     go : (b : Bool) (o : Option ℕ) → ((j : ℕ) → o ≡ Some j → j < n) → cond b (Some (first_of goes n o)) o ≡ Some k → k < suc n

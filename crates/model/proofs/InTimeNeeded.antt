@@ -7,7 +7,6 @@ use Rattle.model.specs.InTime.{C, D, Partition, Passes, T, ceil, size, sum_befor
 use Rattle.model.specs.Machine.{closed, one_on, overdue, put, ready, released}
 use Rattle.model.proofs.Firsts.{First}
 use Rattle.model.proofs.OnePartition.{Event, InTimeIsNeeded, Proper, State, after_work, fresh, is_open, late, may_release, release, run, runner, step, tick}
-use Rattle.model.proofs.Options.{none_some}
 use Rattle.model.proofs.Ranges.{find_below}
 use Rattle.model.proofs.Sums.{at, at_other, at_same, before_le, before_more, before_zero, ceil_is}
 use Rattle.model.proofs.Supplies.{demand_is, supply_more, supply_none}
@@ -167,7 +166,7 @@ module _ (p : Partition) (ok : Proper p) (i : ℕ) (il : i < size p) (s : ℕ) (
     soon = omega (arith, ok.costs i il);
     unspent = λ j l b g. elim (cases_Bool (wanted p i j)) [
       | inl w ↦ omega (arith, (new_job s b (ap job_of (sym (new j l w)) ∙ g)).1, ok.costs j l)
-      | inr w ↦ absurd (none_some (sym (old j w) ∙ g))
+      | inr w ↦ cc (sym (old j w) ∙ g)
     ];
     others = λ j l g. elim (cases_Bool (wanted p i j)) [ inl w ↦ w | inr w ↦ absurd (both_ways _ (ap is_some (old j w)) g) ];
     did = λ j l b. rw (new j l (want_before j b)) (omega (arith, new_owed (C p j) s));
@@ -182,7 +181,7 @@ module _ (p : Partition) (ok : Proper p) (i : ℕ) (il : i < size p) (s : ℕ) (
           let c = ok.costs j l in
           let t = now_start in
           (omega arith, omega arith)
-      | inr w ↦ absurd (none_some (sym (old j w) ∙ g))
+      | inr w ↦ cc (sym (old j w) ∙ g)
     ];
     used = omega (arith, before_zero p i, supply_none p s);
   }

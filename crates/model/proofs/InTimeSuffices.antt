@@ -7,7 +7,6 @@ use Rattle.model.specs.InTime.{C, D, Partition, Passes, T, size}
 use Rattle.model.specs.Machine.{closed, overdue, put, ready, released}
 use Rattle.model.proofs.BusyWindows.{BusyWindow, admits, goes_on, starts, weaker}
 use Rattle.model.proofs.OnePartition.{Event, Proper, State, after_work, end, fresh, late, may_end, may_release, release, runner, step, tick}
-use Rattle.model.proofs.Options.{none_some}
 use Rattle.model.proofs.Sums.{at, at_other, at_same, before_more}
 use Rattle.model.proofs.Turns.{Turn, Unspent, all_closed, job_of, new_job, new_owed, new_ready, not_owned, one_less, owed, put_other, put_same, rests_none, rests_other, runs, same_last, turn, unspent_after, was, works}
 
@@ -133,7 +132,7 @@ kept_owed c x y (inr e) = rw e (omega arith)
 kept_job : (x y : TaskState) (b : Job) → Kept x y → y.job ≡ Some b → x.job ≡ Some b
 unfolding closed
 kept_job x y b (inl e) q = ap job_of (sym e) ∙ q
-kept_job x y b (inr e) q = absurd (none_some (ap job_of (sym e) ∙ q))
+kept_job x y b (inr e) q = cc (ap job_of (sym e) ∙ q)
 
 kept_when : (t : Bool) (x : TaskState) → Kept x (cond t (closed x) x)
 kept_when true x = inr refl
@@ -155,10 +154,10 @@ module _ (p : Partition) (ok : Proper p) (i : ℕ) (il : i < size p) where
   pub begins : (start : ℕ) → Inv p i start (fresh start).tasks
   unfolding ready
   begins start = record {
-    unspent = λ j l b q. absurd (none_some q);
+    unspent = λ j l b q. cc;
     past = λ j l. omega arith;
     lead = (start, starts p ok i il start (fresh start).tasks (λ j l b. refl));
-    own = λ b q. absurd (none_some q);
+    own = λ b q. cc;
   }
 
   tick_keeps : (st : State) → Inv p i st.now st.tasks → Inv p i (step p st tick).now (step p st tick).tasks

@@ -1,4 +1,3 @@
-pub mod Options
 pub mod Ranges
 pub mod Firsts
 pub mod Sums

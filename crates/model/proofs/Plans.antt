@@ -16,7 +16,6 @@ use Rattle.model.specs.Verdicts.{Cleared}
 use Rattle.model.specs.WindowLists.{against, count_answer, end_of, frame_answer, list_answer, naming, overlap, window_answer, windows_answer}
 use Rattle.model.proofs.Gaps.{first_again}
 use Rattle.model.proofs.Limits.{has_part, limits}
-use Rattle.model.proofs.Options.{none_some}
 use Rattle.model.proofs.Planning.{least_is}
 use Rattle.model.proofs.Sums.{sum_same}
 use Rattle.model.proofs.Supplies.{passes_everywhere}
@@ -149,7 +148,7 @@ module _ (y : ℕ) where
 
   named : (n p x : ℕ) (qs : List ℕ) → window_owner (end_to_end p x qs) y ≡ Some n → n < p + length qs
   unfolding end_to_end window_owner
-  named n p x [] e = absurd (none_some e)
+  named n p x [] e = cc
   named n p x (q ∷ qs) e = cond_both (eqb q 0) _ _ (λ ws. window_owner ws y ≡ Some n → n < p + suc (length qs))
       (λ _ k. omega (arith, named n (p + 1) x qs k))
       (λ _ k. elim (either_owner (spans x q y) p n (window_owner (end_to_end (p + 1) (x + q) qs) y) k) [

@@ -18,7 +18,6 @@ use Rattle.model.specs.Modules.{Module, has_partition, task_of, tasks_of}
 use Rattle.model.specs.Promises.{NeverLate, executive, plain}
 use Rattle.model.specs.Timetables.{Timetable, owner_at}
 use Rattle.model.proofs.Limits.{Limits}
-use Rattle.model.proofs.Options.{none_some}
 use Rattle.model.proofs.OwnView.{may_end, may_release, view, view_clear, view_end, view_fault, view_lacks, view_last, view_other, view_release, with_tasks}
 use Rattle.model.proofs.Turns.{job_of, new_job, put_other, put_same}
 use Rattle.model.proofs.OnePartition as one
@@ -64,7 +63,7 @@ module _ (t : Timetable) (rule : DispatchRule) (m : Module) (ok : Limits m) wher
 
     young_at : (i : ℕ) (c : Bool) (x : TaskState) (b : Job) → overdue (task_of (tasks_of m p) i).deadline (st.now + 1) x.job ≡ c → (cond c (closed x) x).job ≡ Some b → st.now + 1 < b.released + (task_of (tasks_of m p) i).deadline
     unfolding closed overdue
-    young_at i true x b e q = absurd (none_some q)
+    young_at i true x b e q = cc
     young_at i false x b e q = leb-false _ _ (ap (overdue (task_of (tasks_of m p) i).deadline (st.now + 1)) (sym q) ∙ e)
 
     tick_tidy : st.now < last_tick → Tidy (tasks_of m p) (view p (after v m st tick))
@@ -83,7 +82,7 @@ module _ (t : Timetable) (rule : DispatchRule) (m : Module) (ok : Limits m) wher
         let k : i < length (tasks_of m p) = ltb-true _ _ (and_parts _ _ e).0 in
         (k, λ b q. omega (arith, new_job st.now b q, ok.costs p i k))))
     own_tidy (end i) l = subst (Tidy (tasks_of m p)) (sym (view_end v m p st i l)) (put_tidy (tasks_of m p) (view p st) h i (closed ((st.partitions p).tasks i)) (may_end v m p st i) (λ e.
-        (ltb-true _ _ (and_parts _ _ e).0, λ b q. absurd (none_some q))))
+        (ltb-true _ _ (and_parts _ _ e).0, λ b q. cc)))
     own_tidy (fault k) l = same_tidy (call p (fault k)) (view_fault v m p st k l)
     own_tidy clear l = same_tidy (call p clear) (view_clear v m p st l)
 
@@ -108,7 +107,7 @@ module _ (t : Timetable) (rule : DispatchRule) (m : Module) (ok : Limits m) wher
   pub quiet_new : NeverLate v m → (start : ℕ) → Quiet (new start)
   quiet_new never start = record {
     quiet = λ cs h. never start (flight v m (new start) (cs ++ (tick ∷ []))) (cs, [], refl, h);
-    tidy = λ p. record { shut = λ i l. refl; young = λ i l b q. absurd (none_some q) };
+    tidy = λ p. record { shut = λ i l. refl; young = λ i l b q. cc };
   }
 
   pub quiet_after : (st : MachineState) (c : Call) → Quiet st → Quiet (after v m st c)

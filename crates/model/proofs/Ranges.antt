@@ -2,7 +2,6 @@
 use Rattle.std.proofs.Common.{◌≡◌, ℕ, zero, suc, ◌<◌, ◌≤◌, Bool, true, false, cond, ◌⊎◌, Some, None, Option, sym, refl, ap, ◌∙◌, subst, inl, inr, arith}
 use Rattle.std.proofs.lemmas.Bool.{and_from, and_parts, both_ways, cases_Bool, cases_eq, or_cases, or_left, or_right}
 use Rattle.model.specs.Ranges.{all_below, first_found, least_below, or_else, some_upto}
-use Rattle.model.proofs.Options.{none_some}
 
 pub some_from : (f : ℕ → Bool) (n : ℕ) → some_upto f n ≡ true → (t : ℕ) × (1 ≤ t) × (t ≤ n) × (f t ≡ true)
 unfolding some_upto
@@ -47,7 +46,7 @@ find_below (suc n) A B d = elim (d n) [
 
 or_none : {A : Type 0} (o q : Option A) → or_else o q ≡ None → (o ≡ None) × (q ≡ None)
 unfolding or_else
-or_none (Some a) q e = absurd (none_some (sym e))
+or_none (Some a) q e = cc
 or_none None q e = (refl, e)
 
 module _ {A : Type 0} (f : ℕ → Option A) where
@@ -80,7 +79,7 @@ module _ {A : Type 0} (f : ℕ → Option A) where
 
   pub found_some : (n : ℕ) (a : A) → first_found f n ≡ Some a → Found_at n a
   unfolding first_found or_else
-  found_some zero a e = absurd (none_some e)
+  found_some zero a e = cc
   found_some (suc n) a e = go (first_found f n) refl (found_some n) e
     where
       go : (o : Option A) → first_found f n ≡ o → ((b : A) → first_found f n ≡ Some b → Found_at n b) → or_else o (f n) ≡ Some a → Found_at (suc n) a
@@ -98,14 +97,14 @@ module _ (test : ℕ → Bool) where
 
   none_test : (k : ℕ) → at_test k ≡ None → test k ≡ false
   none_test k e = elim (cases_Bool (test k)) [
-    | inl y ↦ absurd (none_some (sym e ∙ ap {B = Option ℕ} (λ b. cond b (Some k) None) y))
+    | inl y ↦ cc (sym e ∙ ap {B = Option ℕ} (λ b. cond b (Some k) None) y)
     | inr y ↦ y
   ]
 
   some_test : (k j : ℕ) → at_test k ≡ Some j → (k ≡ j) × (test k ≡ true)
   some_test k j e = elim (cases_Bool (test k)) [
     | inl y ↦ let q : Some k ≡ Some j = sym (ap {B = Option ℕ} (λ b. cond b (Some k) None) y) ∙ e in let z : k ≡ j = cc in (z, y)
-    | inr y ↦ absurd (none_some (sym (test_none k y) ∙ e))
+    | inr y ↦ cc (sym (test_none k y) ∙ e)
   ]
 
   -- k is the least number below n that passes

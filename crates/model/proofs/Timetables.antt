@@ -5,7 +5,6 @@ use Rattle.model.specs.declared.window.Window.{Window}
 use Rattle.model.specs.Answers.{Answer, and_then, granted, refused}
 use Rattle.model.specs.Timetables.{CoveredOnce, LawfulTimetable, Timetable, TimetablesAreLawful, bare_frame, covers, cycle_answer, opened, share_owner, share_timetable, shifted, window_owner, window_timetable}
 use Rattle.model.specs.WindowLists.{Neighbours, count_answer, end_of, frame_answer, in_frame, list_answer, naming, overlap, window_answer, windows_answer}
-use Rattle.model.proofs.Options.{none_some}
 
 -- an answer that grants
 abbrev pub Grants : Answer (Unit {0}) → Type 0
@@ -30,7 +29,7 @@ pub frame_granted : (f : ℕ) → Grants (frame_answer f) → (1 ≤ f) × (f �
 frame_granted f h = let v = and_parts (leb 1 f) (leb f 1024) (if_granted (leb 1 f && leb f 1024) (granted tt) 51 [] h) in (leb-true _ _ v.0, leb-true _ _ v.1)
 
 bare_lawful : LawfulTimetable bare_frame
-bare_lawful = record { frame_within = omega arith; owners_within = λ x p l e. absurd (none_some e) }
+bare_lawful = record { frame_within = omega arith; owners_within = λ x p l e. cc }
 
 -- what is opened keeps the law if what is granted does
 pub opened_lawful : (a : Answer (Unit {0})) (t : Timetable) → (Grants a → LawfulTimetable t) → LawfulTimetable (opened a t)
@@ -44,7 +43,7 @@ either_owner false q p o e = inr e
 
 window_below : (rule : Neighbours) (f i : ℕ) (v : Option Window) (ws : List Window) (x p : ℕ) → Grants (windows_answer rule f i v ws) → window_owner ws x ≡ Some p → p < 8
 unfolding window_owner
-window_below rule f i v [] x p h e = absurd (none_some e)
+window_below rule f i v [] x p h e = cc
 window_below rule f i v (w ∷ ws) x p h e =
     let g = both_grant (window_answer rule f i v w) _ h in
     let a = and_parts (leb 1 w.length) _ (if_granted (in_frame f w) _ 53 (i ∷ []) g.0) in
@@ -65,7 +64,7 @@ windows_lawful rule f ws = opened_lawful (list_answer rule f ws) _ (λ h.
 
 share_below : (q : ℕ) (ns : List ℕ) (x p : ℕ) → share_owner q ns x ≡ Some p → p < q + length ns
 unfolding share_owner
-share_below q [] x p e = absurd (none_some e)
+share_below q [] x p e = cc
 share_below q (n ∷ ns) x p e = elim (either_owner (ltb x n) q p _ e) [
   | inl z ↦ omega arith
   | inr z ↦ omega (arith, share_below (q + 1) ns (x - n) p z)

@@ -8,7 +8,6 @@ use Rattle.model.specs.Machine.{is_runner, one_on, put, ready, released}
 use Rattle.model.specs.Ranges.{first_such}
 use Rattle.model.proofs.Firsts.{First, Found, NonePasses, found}
 use Rattle.model.proofs.OnePartition.{Proper, State, after_work, is_open, runner}
-use Rattle.model.proofs.Options.{none_some}
 
 -- the three kinds of tick
 pub data Turn (p : Partition) (st : State) : Type 0 where
@@ -80,12 +79,12 @@ one_less c (Some b) h u = go (leb c (b.ran + 1)) refl
 pub was : (c : ℕ) (o : Option Job) (b : Job) → one_on c o ≡ Some b →
     (a : Job) × (o ≡ Some a) × (b.released ≡ a.released) × (b.ran ≡ a.ran + 1) × (b.ran < c)
 unfolding one_on
-was c None b e = absurd (none_some e)
+was c None b e = cc
 was c (Some a) b e = go (leb c (a.ran + 1)) refl e
   where
     go : (t : Bool) → leb c (a.ran + 1) ≡ t → cond t None (Some (record { released = a.released; ran = a.ran + 1 })) ≡ Some b →
         (x : Job) × (Some a ≡ Some x) × (b.released ≡ x.released) × (b.ran ≡ x.ran + 1) × (b.ran < c)
-    go true l e = absurd (none_some e)
+    go true l e = cc
     go false l e =
         let r : b.ran ≡ a.ran + 1 = cc in
         let q : b.released ≡ a.released = cc in

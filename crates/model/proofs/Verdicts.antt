@@ -16,7 +16,6 @@ use Rattle.model.proofs.Decisions.{decides_in_time, decides_passes, known, names
 use Rattle.model.proofs.Firsts.{First, Found, found}
 use Rattle.model.proofs.Limits.{has_part}
 use Rattle.model.proofs.OnePartition.{Proper}
-use Rattle.model.proofs.Options.{none_some}
 use Rattle.model.proofs.Ranges.{Found_at, Least, found_none, found_some, least_none, least_some, none_found, none_least, some_found, some_least}
 
 -- The first foreign place.
@@ -101,7 +100,7 @@ module _ (p : Partition) (f : ℕ) (ok : Proper p) where
     start_gone : (i : ℕ) (o : Option ℕ) → late_at n i o ≡ None → o ≡ None
     unfolding late_at
     start_gone i None e = refl
-    start_gone i (Some s) e = absurd (none_some (sym e))
+    start_gone i (Some s) e = cc
 
     none_of : (o : Option ℕ) → Found p.before late (size p) o → late_task p f n o ≡ None → (i : ℕ) → i < size p → InTime p f i
     unfolding late_task
@@ -128,7 +127,7 @@ module _ (p : Partition) (f : ℕ) (ok : Proper p) where
 
     start_some : (i : ℕ) (o : Option ℕ) (l : LateTask) → failing_start p f i ≡ o → First p.before late (size p) i → late_at n i o ≡ Some l → MadeOf l
     unfolding late_at failing_start
-    start_some i None l q w e = absurd (none_some e)
+    start_some i None l q w e = cc
     start_some i (Some s) l q w e =
         let v : Least (fails i) f s = least_some (fails i) f s q in
         let z : at_start i s ≡ l = cc in
@@ -147,7 +146,7 @@ module _ (p : Partition) (f : ℕ) (ok : Proper p) where
 
     some_of : (o : Option ℕ) (l : LateTask) → Found p.before late (size p) o → late_task p f n o ≡ Some l → MadeOf l
     unfolding late_task
-    some_of None l w e = absurd (none_some e)
+    some_of None l w e = cc
     some_of (Some i) l w e = start_some i (failing_start p f i) l refl w e
 
     pub late_some : (l : LateTask) → late_task p f n (first_late p f) ≡ Some l → MadeOf l
