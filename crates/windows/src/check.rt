@@ -1,6 +1,6 @@
 // The checks of a frame, of one window after another, and of a whole list. Each only looks.
 ghost use Rattle.std.specs.Prelude.{◌≡◌, length};
-ghost use Rattle.model.specs.WindowLists.{frame_answer, count_answer, window_answer, list_answer, overlap};
+ghost use Rattle.model.specs.WindowLists.{end_of, frame_answer, count_answer, window_answer, list_answer, overlap};
 ghost use Rattle.windows.specs.Refusals.{told};
 
 use crate::WindowRefusal;
@@ -10,7 +10,7 @@ use model::Window;
 pub fn check_frame(frame: u16) -> Result<(), WindowRefusal>
     ensures { told result ≡ frame_answer frame }
 {
-    if 1 <= frame && frame <= 1024 {
+    if (1..=1024).contains(&frame) {
         Ok(())
     } else {
         Err(WindowRefusal::FrameLength)
@@ -28,6 +28,13 @@ pub fn check_count(count: usize) -> Result<(), WindowRefusal>
     }
 }
 
+// The first place after the window.
+fn end(window: Window) -> u32
+    ensures { result ≡ end_of window }
+{
+    u32::from(window.start) + u32::from(window.length)
+}
+
 // Window `index` of a list, after the window before it, if there is one: 53, then 54.
 pub fn check_window(
     frame: u16,
@@ -37,17 +44,13 @@ pub fn check_window(
 ) -> Result<(), WindowRefusal>
     ensures { told result ≡ window_answer overlap frame index previous window }
 {
-    let end = u32::from(window.start) + u32::from(window.length);
-    if window.length == 0 || window.partition > 7 || end > u32::from(frame) {
+    if window.length == 0 || window.partition > 7 || end(window) > u32::from(frame) {
         return Err(WindowRefusal::Misplaced { window: index });
     }
-    match previous {
-        Some(before)
-            if u32::from(before.start) + u32::from(before.length) > u32::from(window.start) => {
-            Err(WindowRefusal::Overlap { window: index })
-        }
-        _ => Ok(()),
+    if previous.is_some_and(|before| end(before) > u32::from(window.start)) {
+        return Err(WindowRefusal::Overlap { window: index });
     }
+    Ok(())
 }
 
 // The whole list: 51, 52, then window by window 53 and 54.
