@@ -1,3 +1,4 @@
 mod Opened
 mod Shares
 mod Sequences
+mod Stretches

@@ -3,8 +3,8 @@ use Rattle.std.specs.Prelude.{ℕ, [], Ok, Err, Result}
 use Rattle.model.specs.Answers.{Answer, granted, refused}
 use Rattle.model.specs.Timetables.{Timetable, share_timetable}
 use Rattle.timetable.specs.declared.share_cycle.ShareCycle.{ShareCycle}
-use Rattle.timetable.specs.declared.share_cycle.calls.CycleRefusal.{CycleRefusal}
-use Rattle.timetable.specs.declared.share_cycle.calls.CycleRefusal.TheVariants.{FrameLength, TooManyShares}
+use Rattle.timetable.specs.declared.share_cycle.CycleRefusal.{CycleRefusal}
+use Rattle.timetable.specs.declared.share_cycle.CycleRefusal.TheVariants.{FrameLength, TooManyShares}
 
 abbrev pub number : CycleRefusal → ℕ
 number FrameLength = 51

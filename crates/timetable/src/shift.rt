@@ -20,6 +20,7 @@ impl<T: Timetable> Timetable for Shift<T> {
         self.below.frame()
     }
 
+    #[tactic(auto, unfolding(model::specs::Timetables::owner_at))]
     fn owner(&self, tick: u64) -> Option<u8> {
         let place = tick % u64::from(self.below.frame());
         self.below.owner(place + u64::from(self.by))

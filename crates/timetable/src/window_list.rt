@@ -1,12 +1,21 @@
 // A window list: a place belongs to the window that covers it.
-mod calls;
-mod search;
-
-ghost use Rattle.std.specs.Prelude.{◌≡◌, true};
-ghost use Rattle.model.specs.WindowLists.{list_answer, overlap};
+ghost use Rattle.std.specs.Prelude.{◌≡◌, ℕ, List, true, MatchResult, nat_le};
+ghost use Rattle.model.specs.Answers.{granted, refused};
+ghost use Rattle.model.specs.Timetables.{Timetable as Meaning, opened, window_timetable};
+ghost use Rattle.model.specs.WindowLists.{end_of, list_answer, overlap};
 ghost use Rattle.timetable.specs.Granted.{is_granted};
+ghost use Rattle.windows.specs.Refusals.{told};
 
+use crate::Timetable;
 use model::Window;
+use std::alloc::{AllocError, Global};
+use windows::{WindowRefusal, check_list};
+
+fn ended(window: Window, place: u64) -> bool
+    ensures { result ≡ nat_le (end_of window) place }
+{
+    u64::from(window.start) + u64::from(window.length) <= place
+}
 
 // The check allows the windows.
 #[derive(Drop)]
@@ -14,4 +23,60 @@ pub struct WindowList {
     frame: u16,
     windows: Vec<Window>,
     ghost allowed: { is_granted (list_answer overlap frame windows.items) ≡ true },
+}
+
+impl WindowList {
+    ghost use Rattle.timetable.specs.Lists.{meaning};
+
+    // 51, 52, then window by window 53 and 54.
+    pub fn check(frame: u16, windows: &[Window]) -> Result<(), WindowRefusal>
+        ensures { told result ≡ list_answer overlap frame windows.now }
+    {
+        check_list(frame, windows)
+    }
+
+    // The list; where the check refuses it, the bare frame. Memory is wanting only where the check grants.
+    pub fn open(heap: Global, frame: u16, windows: &[Window]) -> Result<WindowList, AllocError>
+        ensures { MatchResult result (λ l. meaning l ≡ window_timetable overlap frame windows.now) (λ _. list_answer overlap frame windows.now ≡ granted tt) }
+    {
+        let Ok(()) = WindowList::check(frame, windows) else {
+            return Ok(WindowList::bare(heap));
+        };
+        let windows = windows.to_vec(heap)?;
+        Ok(WindowList { frame, windows })
+    }
+
+    // What is opened where the check refuses: the bare frame.
+    fn bare(heap: Global) -> WindowList
+        ensures { (n : ℕ) (vs : List ℕ) (t : Meaning) → meaning result ≡ opened (refused n vs) t }
+    {
+        WindowList {
+            frame: 1,
+            windows: Vec::new(heap),
+        }
+    }
+}
+
+impl Timetable for WindowList {
+    ghost use Rattle.timetable.specs.Lists.{meaning};
+    ghost use Rattle.model.proofs.Timetables.{timetables_lawful};
+
+    ghost means = { meaning };
+
+    ghost lawful = { λ t. timetables_lawful.windows overlap t.frame t.windows.items };
+
+    #[tactic(auto, using(crate::proofs::Opened::opened_granted))]
+    fn frame(&self) -> u16 {
+        self.frame
+    }
+
+    // The first window that ends after the place, if it has begun by then.
+    fn owner(&self, tick: u64) -> Option<u8> {
+        let place = tick % u64::from(self.frame);
+        let next = self.windows.partition_point(|window| ended(*window, place));
+        self.windows
+            .get(next)
+            .filter(|window| u64::from(window.start) <= place)
+            .map(|window| window.partition)
+    }
 }
