@@ -1,9 +1,10 @@
 -- The task that the choice gives is the one that goes first.
-use Rattle.std.proofs.Common.{◌≡◌, ℕ, zero, suc, ◌<◌, true, false, not, ◌⊎◌, List, [], ◌∷◌, length, get_or, Some, None, sym, refl, ap, ◌∙◌, subst, inl, inr, arith}
+use Rattle.std.proofs.Common.{◌≡◌, ℕ, zero, suc, ◌<◌, Bool, true, false, not, ◌⊎◌, List, [], ◌∷◌, length, get_or, fold, Some, None, sym, refl, ap, ◌∙◌, subst, inl, inr, arith}
+use Rattle.std.specs.List.{reduce}
 use Rattle.std.proofs.lemmas.Bool.{both_ways, cases_Bool}
 use Rattle.model.specs.declared.task_record.TaskRecord.{TaskRecord}
 use Rattle.model.specs.Orders.{Order, LawfulOrder}
-use Rattle.order.specs.Choices.{FirstAmong, GoesFirst, first_of}
+use Rattle.order.specs.Choices.{FirstAmong, GoesFirst, better, first_of}
 
 module _ (order : Order) (ok : LawfulOrder order) (p : ℕ) where
   -- r is the first of a and bs
@@ -74,3 +75,12 @@ module _ (order : Order) (ok : LawfulOrder order) (p : ℕ) where
   pub goes_first : (bs : List TaskRecord) → GoesFirst order p bs (first_of (order p) None bs)
   goes_first [] = refl
   goes_first (b ∷ bs) = let w = best b bs in subst (GoesFirst order p (b ∷ bs)) (sym w.1.chosen) (first_among b bs w.0 w.1)
+
+-- what is chosen of the best so far and those that are left, as a fold
+best_of_rest : (goes : TaskRecord → TaskRecord → Bool) (a : TaskRecord) (bs : List TaskRecord) → Some (fold (λ b c. better goes (Some b) c) a bs) ≡ first_of goes (Some a) bs
+best_of_rest goes a [] = refl
+best_of_rest goes a (b ∷ bs) = best_of_rest goes (better goes (Some a) b) bs
+
+pub reduce_better : (goes : TaskRecord → TaskRecord → Bool) (bs : List TaskRecord) → reduce (λ a b. better goes (Some a) b) bs ≡ first_of goes None bs
+reduce_better goes [] = refl
+reduce_better goes (b ∷ bs) = best_of_rest goes b bs

@@ -10,7 +10,8 @@ use model::TaskRecord;
 #[derive(Clone, Copy)]
 pub struct ByDeadline;
 
-#[derive(Clone, Copy)]
+// The smaller deadline goes first, and of equal deadlines the lower number.
+#[derive(Clone, Copy, PartialEq, Eq, PartialOrd, Ord)]
 pub struct DeadlineKey {
     pub deadline: u16,
     pub number: u8,
@@ -41,6 +42,6 @@ impl LocalOrder for ByDeadline {
     }
 
     fn before(&self, a: DeadlineKey, b: DeadlineKey) -> bool {
-        a.deadline < b.deadline || a.deadline == b.deadline && a.number < b.number
+        a < b
     }
 }
