@@ -1,21 +1,9 @@
--- Ranks that are apart tell the tasks of a partition apart, and one that is not new shows that they are not.
-use Rattle.std.specs.Prelude.{◌≡◌, ℕ, ◌+◌, ◌<◌, Bool, true, false, not, List, [], ◌==◌, ◌≢◌, nat_lt, slice_index, slice_index_or}
-use Rattle.std.proofs.Common.{inl, inr, add-one}
-use Rattle.std.proofs.lemmas.Bool.{and_from, both_ways, cases_Bool, cases_order, cond-true, eq-eqb, lt-ltb, not-true}
-use Rattle.model.specs.Ranges.{all_below}
+-- Ranks that are apart tell the tasks of a partition apart.
+use Rattle.std.specs.Prelude.{◌≡◌, ℕ, ◌<◌, true, not, List, [], ◌==◌, ◌≢◌, nat_lt, slice_index, slice_index_or}
+use Rattle.std.proofs.Common.{inl, inr}
+use Rattle.std.proofs.lemmas.Bool.{and_from, both_ways, cases_order, cond-true, eq-eqb, lt-ltb, not-true}
 use Rattle.model.proofs.Ranges.{all_from}
 use Rattle.rank_table.specs.Apart.{all_apart, apart, apart_below, rank}
-
--- one number below n that fails the test
-pub not_all : (test : ℕ → Bool) (n k : ℕ) → k < n → test k ≡ false → all_below test n ≡ false
-not_all test n k l e = elim (cases_Bool (all_below test n)) [
-  | inl t ↦ absurd (both_ways _ e (all_from test n t k l))
-  | inr f ↦ f
-]
-
-pub all_more : (test : ℕ → Bool) (n : ℕ) → all_below test n ≡ true → test n ≡ true → all_below test (n + 1) ≡ true
-unfolding all_below
-all_more test n e h = rw add-one (and_from (test n) (all_below test n) h e)
 
 module _ (ranks : List (List ℕ)) (ok : all_apart ranks ≡ true) (p : ℕ) (few : p < 8) where
   -- of two different tasks the later one has a new rank
