@@ -23,11 +23,7 @@ fn checks(rt: HostRuntime) {
     for (frame, shares, want) in CHECKS {
         assert_eq!(rt; ShareCycle::check(frame, shares), want);
         let table = ShareCycle::open(frame, shares);
-        let length = match want {
-            Ok(()) => frame,
-            Err(_) => 1,
-        };
-        assert_eq!(rt; table.frame(), length);
+        assert_eq!(rt; table.frame(), want.map_or(1, |()| frame));
     }
     assert_eq!(rt; CycleRefusal::FrameLength.number(), 51);
     assert_eq!(rt; CycleRefusal::TooManyShares.number(), 55);

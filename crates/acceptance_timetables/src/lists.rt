@@ -53,16 +53,13 @@ fn supply_of_module_a(rt: HostRuntime) -> Result<(), Fail> {
 
 // 64 windows of 8 places, 8 places apart, partition by partition.
 fn striped(heap: Global) -> Result<Vec<Window>, AllocError> {
-    let mut windows = Vec::new(heap);
-    for i in 0..64u16 {
-        let window = Window {
+    (0..64u16)
+        .map(|i| Window {
             partition: (i % 8) as u8,
             start: 16 * i,
             length: 8,
-        };
-        windows.push(window)?;
-    }
-    Ok(windows)
+        })
+        .collect(heap)
 }
 
 #[test]
@@ -70,11 +67,7 @@ fn sixty_four_windows(rt: HostRuntime) -> Result<(), Fail> {
     let windows = striped(rt.alloc())?;
     let table = WindowList::open(rt.alloc(), 1024, windows.as_slice())?;
     for place in 0..1024u64 {
-        let want = if place % 16 < 8 {
-            Some((place / 16 % 8) as u8)
-        } else {
-            None
-        };
+        let want = (place % 16 < 8).then_some((place / 16 % 8) as u8);
         assert_eq!(rt; table.owner(place), want);
         assert_eq!(rt; table.owner(place + 1024 * 1_000_000), want);
     }

@@ -39,14 +39,10 @@ fn pairs(rt: HostRuntime) {
 #[test]
 fn choices(rt: HostRuntime) {
     let tasks = [record(2, 9), record(1, 12), record(5, 9), record(3, 30)];
-    assert_eq!(rt; chosen(first(&Listed, 0, &tasks)), Some(1));
-    assert_eq!(rt; chosen(first(&ByDeadline, 0, &tasks)), Some(2));
-    assert_eq!(rt; chosen(first(&Listed, 0, &[])), None);
-}
-
-fn chosen(task: Option<TaskRecord>) -> Option<u8> {
-    match task {
-        Some(task) => Some(task.number),
-        None => None,
-    }
+    assert_eq!(rt; first(&Listed, 0, &tasks).map(|task| task.number), Some(1));
+    assert_eq!(rt;
+        first(&ByDeadline, 0, &tasks).map(|task| task.number),
+        Some(2)
+    );
+    assert_eq!(rt; first(&Listed, 0, &[]).map(|task| task.number), None);
 }
