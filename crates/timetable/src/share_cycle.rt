@@ -5,6 +5,7 @@ ghost use Rattle.model.specs.Timetables.{Timetable as Meaning, cycle_answer, ope
 ghost use Rattle.timetable.specs.Granted.{is_granted};
 
 use crate::Timetable;
+use windows::check_frame;
 
 #[derive(Clone, Copy, PartialEq, Eq, Debug)]
 pub enum CycleRefusal {
@@ -39,9 +40,7 @@ impl ShareCycle {
     pub fn check(frame: u16, shares: [u16; 8]) -> Result<(), CycleRefusal>
         ensures { told result ≡ cycle_answer frame shares }
     {
-        if !(1..=1024).contains(&frame) {
-            return Err(CycleRefusal::FrameLength);
-        }
+        check_frame(frame).map_err(|_| CycleRefusal::FrameLength)?;
         let total: u32 = shares.iter().map(|share| u32::from(*share)).sum();
         if total <= u32::from(frame) {
             Ok(())
