@@ -20,10 +20,8 @@ impl RoundRobin {
     pub fn new(partitions: u8, turn: u16) -> Option<RoundRobin>
         ensures { made result ≡ allowed_turns partitions turn }
     {
-        if !(1..=8).contains(&partitions) || turn < 1 {
-            return None;
-        }
-        if u32::from(partitions) * u32::from(turn) > 1024 {
+        let frame = u32::from(partitions) * u32::from(turn);
+        if !(1..=8).contains(&partitions) || turn < 1 || frame > 1024 {
             return None;
         }
         Some(RoundRobin { partitions, turn })
