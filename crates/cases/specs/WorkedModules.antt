@@ -1,6 +1,9 @@
 -- The worked modules, computed by the definitions. Listed order unless said.
-use Rattle.std.specs.Prelude.{◌≡◌, ℕ, ◌+◌, ◌-◌, ◌<◌, ◌≤◌, true, ◌↔◌, List, [], ◌∷◌, ◌++◌, map, length, drop, replicate, Some, None}
+use Rattle.std.specs.Prelude.{◌≡◌, ℕ, ◌+◌, ◌-◌, ◌<◌, ◌≤◌, true, ◌↔◌, List, [], ◌∷◌, ◌++◌, map, length, drop, replicate, Some, None, Ok, Err, Result}
 use Rattle.model.specs.declared.call.Call.{Call}
+use Rattle.model.specs.declared.refusal.Fault.{Fault}
+use Rattle.model.specs.declared.refusal.Refusal.{Refusal}
+use Rattle.model.specs.declared.reply.Progress.{Progress}
 use Rattle.model.specs.declared.reply.Reply.{Reply}
 use Rattle.model.specs.declared.window.Window.{Window}
 use Rattle.model.specs.Modules.{Module, task, tasks_of}
@@ -19,7 +22,8 @@ use Rattle.model.specs.Promises.{plain}
 use Rattle.model.specs.declared.refusal.Refusal.TheVariants.{NotCleared, NoSuchPartition, NoSuchTask, TooSoon, NoOpenJob, NoSuchFault, LastTick}
 use Rattle.model.specs.declared.call.Request.TheVariants.{Release as release, End as end, Fault as fault, Clear as clear}
 use Rattle.model.specs.declared.call.Call.TheVariants.{Tick as tick, Of as call}
-use Rattle.model.specs.declared.reply.Reply.TheVariants.{Refused as denied, Spare as spare, Idle as idle, Ran as ran, Due as due, Count as count, Entry as entry, Emptied as emptied}
+use Rattle.model.specs.declared.reply.Reply.TheVariants.{Turn, Due, Count, Entry as FaultEntry, Emptied}
+use Rattle.model.specs.declared.reply.Turn.TheVariants.{Spare, Idle, Ran}
 use Rattle.model.specs.declared.reply.Progress.TheVariants.{Open as still_open, Spent as spent}
 
 -- a window by its partition, start and length
@@ -50,8 +54,33 @@ partition_A d = partition timetable_A listed (module_A d) 0
 abbrev pub engine_A : Engine
 engine_A = plain timetable_A (by_order listed)
 
+-- an answer: what is replied to a call, or why it is refused
+abbrev pub Told : Type 0
+Told = Result Reply Refusal
+
+abbrev pub spare : Told
+spare = Ok (Turn Spare)
+
+abbrev pub idle : ℕ → Told
+idle p = Ok (Turn (Idle p))
+
+abbrev pub ran : ℕ → ℕ → Progress → Told
+ran p i f = Ok (Turn (Ran p i f))
+
+abbrev pub due : ℕ → Told
+due u = Ok (Due u)
+
+abbrev pub count : ℕ → Told
+count n = Ok (Count n)
+
+abbrev pub entry : Fault → Told
+entry f = Ok (FaultEntry f)
+
+abbrev pub emptied : ℕ → ℕ → Told
+emptied n l = Ok (Emptied n l)
+
 -- the answers to some calls from a start tick, on A with that deadline
-abbrev pub answers_A : ℕ → ℕ → List Call → List Reply
+abbrev pub answers_A : ℕ → ℕ → List Call → List Told
 answers_A d start cs = map (λ e. e.answer) (flight engine_A (module_A d) (new start) cs)
 
 -- the calls of partition 0 that make task 1 late where its deadline is 18
@@ -129,22 +158,22 @@ pub record WorkedCases : Type 0 where
       due 10 ∷ due 19 ∷ due 10 ∷ ran 0 0 still_open ∷ ran 0 0 spent ∷ ran 0 1 still_open ∷ ran 0 1 still_open ∷ ran 1 0 spent ∷ replicate 5 spare
   -- release (0, 0) at tick 5: again at 14 is refused, at 15 accepted
   pub too_soon : answers_A 19 5 (call 0 (release 0) ∷ replicate 9 tick ++ (call 0 (release 0) ∷ tick ∷ call 0 (release 0) ∷ [])) ≡
-      due 15 ∷ replicate 5 spare ++ (ran 0 0 still_open ∷ ran 0 0 spent ∷ idle 0 ∷ idle 0 ∷ denied TooSoon ∷ idle 1 ∷ due 25 ∷ [])
+      due 15 ∷ replicate 5 spare ++ (ran 0 0 still_open ∷ ran 0 0 spent ∷ idle 0 ∷ idle 0 ∷ Err TooSoon ∷ idle 1 ∷ due 25 ∷ [])
   -- with deadline 18 task 1 is late as `now` becomes 21, so the record has a late job
   pub late_at_21 : (late_state.now ≡ 20) × (late engine_A 0 (tasks_of (module_A 18) 0) 20 (late_state.partitions 0).tasks 1 ≡ true)
   pub late_record_A : LateRecord engine_A (module_A 18) 3 (flight engine_A (module_A 18) (new 3) (late_calls ++ (tick ∷ [])))
   -- the late job is open until then, having run 2 ticks, and closed after
   pub late_closes : (reply engine_A (module_A 18) late_state (call 0 (end 1)) ≡ count 2) × (late_after.now ≡ 21) ×
-      (reply engine_A (module_A 18) late_after (call 0 (end 1)) ≡ denied NoOpenJob)
+      (reply engine_A (module_A 18) late_after (call 0 (end 1)) ≡ Err NoOpenJob)
   -- 18 accepted ticks after its release it has run 2 ticks of 3, and nobody ended it
   pub late_unserved : (how_many ticks late_entries ≡ 18) × (how_many (runs 0 1) late_entries ≡ 2) × (how_many (ends 0 1) late_entries ≡ 0)
   -- a job's entries stop at the task's next accepted release
   pub next_release_cuts : (length (up_to (releases 0 0) twice_entries) ≡ 10) × (how_many (runs 0 0) (up_to (releases 0 0) twice_entries) ≡ 2) ×
       (how_many (runs 0 0) twice_entries ≡ 3)
   -- calls that name other partitions are struck; of the ticks only partition 0's are its own, and its refused ones are
-  pub struck_0 : map (λ e. e.answer) (struck 0 mixed_record) ≡ denied NoOpenJob ∷ spare ∷ idle 0 ∷ []
-  pub own_0 : map (λ e. e.answer) (own_entries timetable_A 0 9 mixed_record) ≡ denied NoOpenJob ∷ idle 0 ∷ []
-  pub own_refused : map (λ e. e.answer) (own_entries timetable_A 0 last_tick (flight engine_A (module_A 19) (new last_tick) (tick ∷ []))) ≡ denied LastTick ∷ []
+  pub struck_0 : map (λ e. e.answer) (struck 0 mixed_record) ≡ Err NoOpenJob ∷ spare ∷ idle 0 ∷ []
+  pub own_0 : map (λ e. e.answer) (own_entries timetable_A 0 9 mixed_record) ≡ Err NoOpenJob ∷ idle 0 ∷ []
+  pub own_refused : map (λ e. e.answer) (own_entries timetable_A 0 last_tick (flight engine_A (module_A 19) (new last_tick) (tick ∷ []))) ≡ Err LastTick ∷ []
   -- the owner's job runs, not the module's first open job
   pub owners_job : (answers_A 19 4 (call 0 (release 0) ∷ tick ∷ []) ≡ due 14 ∷ idle 1 ∷ []) ×
       (answers_A 19 4 (call 0 (release 0) ∷ call 1 (release 0) ∷ tick ∷ []) ≡ due 14 ∷ due 14 ∷ ran 1 0 spent ∷ [])
@@ -153,19 +182,19 @@ pub record WorkedCases : Type 0 where
   pub tight_demand : (demand tight_0 1 1 ≡ 2) × (supply tight_0 0 1 ≡ 1) × (demand tight_0 1 2 ≡ 2) × (supply tight_0 0 2 ≡ 2)
   -- refused calls, and the entries that they leave
   pub refusals : answers_A 19 7 (call 2 clear ∷ call 0 (release 2) ∷ call 0 (end 0) ∷ call 0 (fault 1) ∷ call 0 (fault 2) ∷ call 0 clear ∷ call 0 (fault 0) ∷ []) ≡
-      denied NoSuchPartition ∷ denied NoSuchTask ∷ denied NoOpenJob ∷ entry (record { refusal = NoOpenJob; task = 0; tick = 7 }) ∷
-      denied NoSuchFault ∷ emptied 2 0 ∷ denied NoSuchFault ∷ []
+      Err NoSuchPartition ∷ Err NoSuchTask ∷ Err NoOpenJob ∷ entry (record { refusal = NoOpenJob; task = 0; tick = 7 }) ∷
+      Err NoSuchFault ∷ emptied 2 0 ∷ Err NoSuchFault ∷ []
   pub entries : answers_A 19 7 (call 0 (release 0) ∷ call 0 (release 0) ∷ call 0 (end 2) ∷ call 2 (end 9) ∷ call 0 (fault 0) ∷ call 0 (fault 1) ∷ []) ≡
-      due 17 ∷ denied TooSoon ∷ denied NoSuchTask ∷ denied NoSuchPartition ∷ entry (record { refusal = TooSoon; task = 0; tick = 7 }) ∷
+      due 17 ∷ Err TooSoon ∷ Err NoSuchTask ∷ Err NoSuchPartition ∷ entry (record { refusal = TooSoon; task = 0; tick = 7 }) ∷
       entry (record { refusal = NoSuchTask; task = 2; tick = 7 }) ∷ []
   pub lost_one : answers_A 19 0 (replicate 9 (call 0 (end 0)) ++ (call 0 clear ∷ call 0 clear ∷ [])) ≡
-      replicate 9 (denied NoOpenJob) ++ (emptied 8 1 ∷ emptied 0 0 ∷ [])
+      replicate 9 (Err NoOpenJob) ++ (emptied 8 1 ∷ emptied 0 0 ∷ [])
   pub lost_stops : (noted full (record { refusal = TooSoon; task = 0; tick = 0 })).lost ≡ 65535
   -- an ended job answers its count
   pub ended : answers_A 19 0 (call 0 (release 1) ∷ tick ∷ tick ∷ call 0 (end 1) ∷ call 0 (end 1) ∷ []) ≡
-      due 19 ∷ ran 0 1 still_open ∷ ran 0 1 still_open ∷ count 2 ∷ denied NoOpenJob ∷ []
+      due 19 ∷ ran 0 1 still_open ∷ ran 0 1 still_open ∷ count 2 ∷ Err NoOpenJob ∷ []
   -- the last tick, and a start past it
-  pub at_the_end : answers_A 19 (last_tick - 1) (tick ∷ tick ∷ []) ≡ spare ∷ denied LastTick ∷ []
+  pub at_the_end : answers_A 19 (last_tick - 1) (tick ∷ tick ∷ []) ≡ spare ∷ Err LastTick ∷ []
   pub stays_at_the_end : (after engine_A (module_A 19) (new last_tick) tick).now ≡ last_tick
   pub past_the_end : (new (last_tick + 1)).now ≡ last_tick
   pub numbers : map number (NotCleared ∷ NoSuchPartition ∷ NoSuchTask ∷ TooSoon ∷ NoOpenJob ∷ NoSuchFault ∷ LastTick ∷ []) ≡

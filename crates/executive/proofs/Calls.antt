@@ -1,13 +1,13 @@
 -- From what the tables answer and keep to the contracts of the calls.
-use Rattle.std.proofs.Common.{◌≡◌, ℕ, ◌+◌, ◌<◌, ◌≤◌, true, List, map, length, get_or, set, Some, None, vec_items, sym, refl, ap, ◌∙◌, inl, inr}
+use Rattle.std.proofs.Common.{◌≡◌, ℕ, ◌+◌, ◌<◌, ◌≤◌, true, List, map, length, get_or, set, Some, None, Err, Result, vec_items, sym, refl, ap, ◌∙◌, inl, inr}
 use Rattle.std.proofs.lemmas.List.{set-get_or}
 use Rattle.std.proofs.lemmas.Bool.{cases_lt, cond-false, cond-true, le-ltb, lt-ltb}
 use Rattle.model.specs.declared.call.Call.{Call}
 use Rattle.model.specs.declared.call.Call.TheVariants.{Of as call}
 use Rattle.model.specs.declared.call.Request.{Request}
+use Rattle.model.specs.declared.refusal.Refusal.{Refusal}
 use Rattle.model.specs.declared.refusal.Refusal.TheVariants.{NoSuchPartition}
 use Rattle.model.specs.declared.reply.Reply.{Reply}
-use Rattle.model.specs.declared.reply.Reply.TheVariants.{Refused}
 use Rattle.model.specs.Machine.{DispatchRule, after, last_tick, reply}
 use Rattle.model.specs.Timetables.{Timetable}
 use Rattle.jobs.specs.declared.job_table.JobTable.{JobTable}
@@ -25,7 +25,7 @@ pub level_of : {T D : Type 0} (x : Running T D) → map tasks_in (vec_items x.ta
 level_of x = equal_module _ _ x.level
 
 -- a call of a cleared module
-pub answered : {T D : Type 0} (means : T → Timetable) (rule : D → DispatchRule) (old new : Running T D) (c : Call) (r : Reply) →
+pub answered : {T D : Type 0} (means : T → Timetable) (rule : D → DispatchRule) (old new : Running T D) (c : Call) (r : Result Reply Refusal) →
     clears (told_verdict old.sealed) ≡ true → r ≡ reply (engine_of means rule old.sealed) (sealed_module old.sealed) (state_in old) c →
     state_in new ≡ after (engine_of means rule old.sealed) (sealed_module old.sealed) (state_in old) c → new.sealed ≡ old.sealed →
     Answered means rule old new c r
@@ -53,21 +53,21 @@ module _ {T D : Type 0} (means : T → Timetable) (rule : D → DispatchRule) (x
   now = x.clock.tick
 
   -- the module lacks the partition
-  pub lacks : length ts ≤ p → Answered means rule x x (call p a) (Refused NoSuchPartition)
+  pub lacks : length ts ≤ p → Answered means rule x x (call p a) (Err NoSuchPartition)
   lacks l =
       let g = engine_of means rule x.sealed in
       answered means rule x x (call p a) _ ok (lacks_answer ts _ (level_of x) g now p a l) (lacks_state ts _ (level_of x) g now p a l) refl
 
   -- the partition's table d answers
   module _ (d : JobTable) (l : p < length ts) (here : d ≡ get_or ts p d) where
-    pub asks : (t : JobTable) (new : Running T D) (r : Reply) → r ≡ answer_to d now a → state_of t ≡ state_after d now a →
+    pub asks : (t : JobTable) (new : Running T D) (r : Result Reply Refusal) → r ≡ answer_to d now a → state_of t ≡ state_after d now a →
         state_in new ≡ state now (set ts p t) → new.sealed ≡ x.sealed → Answered means rule x new (call p a) r
     asks t new r e f s same =
         let g = engine_of means rule x.sealed in
         answered means rule x new (call p a) r ok (request_answer ts _ (level_of x) p d l here g now a r e) (s ∙ request_state ts _ (level_of x) p d l here g now a t f) same
 
     -- and is left as it is
-    pub looks : (r : Reply) → r ≡ answer_to d now a → state_of d ≡ state_after d now a → Answered means rule x x (call p a) r
+    pub looks : (r : Result Reply Refusal) → r ≡ answer_to d now a → state_of d ≡ state_after d now a → Answered means rule x x (call p a) r
     looks r e f = asks d x r e f (ap (state now) (sym (ap (set ts p) here ∙ set-get_or ts p d))) refl
 
     -- its tasks are those of the sealed module

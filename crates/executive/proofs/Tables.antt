@@ -1,13 +1,16 @@
 -- The machine's state by the job tables of its partitions: what a request to one of them and a tick leave.
-use Rattle.std.proofs.Common.{◌≡◌, ℕ, ◌+◌, ◌<◌, ◌≤◌, false, cond, List, [], map, length, get_or, set, Some, None, Option, sym, refl, ap, ◌∙◌, inl, inr, arith}
+use Rattle.std.proofs.Common.{◌≡◌, ℕ, ◌+◌, ◌<◌, ◌≤◌, false, cond, List, [], map, length, get_or, set, Some, None, Ok, Err, Option, Result, sym, refl, ap, ◌∙◌, inl, inr, arith}
 use mathlib.Core.Path.{fun_ext}
 use Rattle.std.proofs.lemmas.List.{get_or-map, get_or_past, get_or-set_other, get_or-set_same, length-map, map-set, set-get_or}
 use Rattle.std.proofs.lemmas.Bool.{cases_Bool, cases_eq, cond-false, cond-true, eq-eqb, le-ltb, lt-ltb, ne_eqb}
 use Rattle.model.specs.declared.call.Call.TheVariants.{Of as call, Tick as tick}
 use Rattle.model.specs.declared.call.Request.{Request}
+use Rattle.model.specs.declared.refusal.Refusal.{Refusal}
 use Rattle.model.specs.declared.refusal.Refusal.TheVariants.{LastTick, NoSuchPartition}
 use Rattle.model.specs.declared.reply.Reply.{Reply}
-use Rattle.model.specs.declared.reply.Reply.TheVariants.{Idle, Refused, Spare}
+use Rattle.model.specs.declared.reply.Reply.TheVariants.{Turn as turn}
+use Rattle.model.specs.declared.reply.Turn.{Turn}
+use Rattle.model.specs.declared.reply.Turn.TheVariants.{Idle, Spare}
 use Rattle.model.specs.declared.task.Task.{Task}
 use Rattle.model.specs.Machine.{DispatchRule, Engine, MachineState, PartitionState, after, answered, asked, chosen, is_runner, last_tick, late, one_on, put, refusal, reply, runner, ticked, tick_reply, told, turn_reply, untouched, worked}
 use Rattle.model.specs.Modules.{Module, task_of, tasks_of}
@@ -55,7 +58,7 @@ module _ (ts : List JobTable) (m : Module) (level : map tasks_in ts ≡ m) where
           ∙ ap (λ h. told (refusal (tasks_of m p) now h a) (answered (tasks_of m p) now h a)) (sym state_at)
           ∙ sym (cond-true _ _ _ (lt-ltb p (length m) (omega (arith, as_many))))
 
-      pub request_answer : (r : Reply) → r ≡ answer_to d now a → r ≡ reply g m (state now ts) (call p a)
+      pub request_answer : (r : Result Reply Refusal) → r ≡ answer_to d now a → r ≡ reply g m (state now ts) (call p a)
       request_answer r e = e ∙ same_answer
 
       pub request_state : (t : JobTable) → state_of t ≡ state_after d now a → state now (set ts p t) ≡ after g m (state now ts) (call p a)
@@ -69,7 +72,7 @@ module _ (ts : List JobTable) (m : Module) (level : map tasks_in ts ≡ m) where
 
   -- a request to a partition that the module lacks
   module _ (g : Engine) (now p : ℕ) (a : Request) (l : length ts ≤ p) where
-    pub lacks_answer : Refused NoSuchPartition ≡ reply g m (state now ts) (call p a)
+    pub lacks_answer : Err NoSuchPartition ≡ reply g m (state now ts) (call p a)
     unfolding reply
     lacks_answer = sym (cond-false _ _ _ (le-ltb p (length m) (omega (arith, as_many))))
 
@@ -106,12 +109,12 @@ module _ (t : Timetable) (rule : DispatchRule) where
     next_state xs e = ap (λ ys. record { now = now + 1; partitions = ys }) (fun_ext e) ∙ sym (cond-true _ _ _ (lt-ltb now last_tick l))
 
     -- the answer by the owner
-    by_owner : (o : Option ℕ) → owner_at t now ≡ o → tick_reply g m (state now ts) o ≡ reply g m (state now ts) tick
+    by_owner : (o : Option ℕ) → owner_at t now ≡ o → Ok (turn (tick_reply g m (state now ts) o)) ≡ reply g m (state now ts) tick
     unfolding reply
-    by_owner o e = ap (tick_reply g m (state now ts)) (sym e) ∙ sym (cond-true _ _ _ (lt-ltb now last_tick l))
+    by_owner o e = ap (λ x. Ok (turn (tick_reply g m (state now ts) x))) (sym e) ∙ sym (cond-true _ _ _ (lt-ltb now last_tick l))
 
     module _ (own : owner_at t now ≡ None) where
-      pub spare_answer : Spare ≡ reply g m (state now ts) tick
+      pub spare_answer : Ok (turn Spare) ≡ reply g m (state now ts) tick
       unfolding tick_reply
       spare_answer = by_owner None own
 
@@ -129,9 +132,9 @@ module _ (t : Timetable) (rule : DispatchRule) where
         no_tasks : tasks_of m p ≡ []
         no_tasks = get_or_past m p [] (omega (arith, as_many ts m level))
 
-        pub lacking_answer : Idle p ≡ reply g m (state now ts) tick
+        pub lacking_answer : Ok (turn (Idle p)) ≡ reply g m (state now ts) tick
         unfolding tick_reply turn_reply chosen first_such
-        lacking_answer = ap (λ ks. turn_reply p ks (partitions_of ts p).tasks (chosen g p ks (partitions_of ts p).tasks)) (sym no_tasks) ∙ by_owner (Some p) own
+        lacking_answer = ap (λ ks. Ok (turn (turn_reply p ks (partitions_of ts p).tasks (chosen g p ks (partitions_of ts p).tasks)))) (sym no_tasks) ∙ by_owner (Some p) own
 
         pub lacking_state : state (now + 1) ts ≡ after g m (state now ts) tick
         lacking_state = next_state (partitions_of ts) (λ q. elim (cases_eq q p) [
@@ -141,11 +144,11 @@ module _ (t : Timetable) (rule : DispatchRule) where
 
       -- the owner's table runs a job, or is idle
       module _ (d : JobTable) (k : p < length ts) (here : d ≡ get_or ts p d) where
-        pub turn_answer : (r : Reply) → r ≡ turn_reply p (tasks_in d) (state_of d).tasks (chosen g p (tasks_in d) (state_of d).tasks) → r ≡ reply g m (state now ts) tick
+        pub turn_answer : (r : Turn) → r ≡ turn_reply p (tasks_in d) (state_of d).tasks (chosen g p (tasks_in d) (state_of d).tasks) → Ok (turn r) ≡ reply g m (state now ts) tick
         unfolding tick_reply
         turn_answer r e =
-            let turn : List Task → PartitionState → Reply = λ ks h. turn_reply p ks h.tasks (chosen g p ks h.tasks) in
-            e ∙ ap (λ ks. turn ks (state_of d)) (sym (tasks_at ts m level p d k here)) ∙ ap (turn (tasks_of m p)) (sym (state_at ts m level p d k here)) ∙ by_owner (Some p) own
+            let took : List Task → PartitionState → Turn = λ ks h. turn_reply p ks h.tasks (chosen g p ks h.tasks) in
+            ap (λ x. Ok (turn x)) (e ∙ ap (λ ks. took ks (state_of d)) (sym (tasks_at ts m level p d k here)) ∙ ap (took (tasks_of m p)) (sym (state_at ts m level p d k here))) ∙ by_owner (Some p) own
 
         pub turn_state : (x : JobTable) → state_of x ≡ ticked g p (tasks_in d) now (state_of d) → state (now + 1) (set ts p x) ≡ after g m (state now ts) tick
         turn_state x e =
@@ -158,7 +161,7 @@ module _ (t : Timetable) (rule : DispatchRule) where
 
   -- at the last tick
   module _ (m : Module) (st : MachineState) (l : last_tick ≤ st.now) where
-    pub last_answer : Refused LastTick ≡ reply g m st tick
+    pub last_answer : Err LastTick ≡ reply g m st tick
     unfolding reply
     last_answer = sym (cond-false _ _ _ (le-ltb st.now last_tick l))
 

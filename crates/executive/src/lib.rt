@@ -4,8 +4,7 @@
 
 mod running;
 mod sealed;
-mod turn;
 
+pub use model::Turn;
 pub use running::Running;
 pub use sealed::{Sealed, seal};
-pub use turn::Turn;

@@ -1,9 +1,11 @@
 -- What is promised of a flight.
-use Rattle.std.specs.Prelude.{◌≡◌, ℕ, Bool, true, false, cond, List, [], ◌∷◌, map, vec_items}
+use Rattle.std.specs.Prelude.{◌≡◌, ℕ, Bool, true, false, cond, List, [], ◌∷◌, map, Ok, Err, Result, vec_items}
+use Rattle.std.specs.declared.alloc.AllocError.{AllocError}
 use Rattle.model.specs.declared.call.Call.{Call}
 use Rattle.model.specs.declared.entry.Entry.{Entry}
 use Rattle.model.specs.declared.refusal.Refusal.TheVariants.{NotCleared}
-use Rattle.model.specs.declared.reply.Reply.TheVariants.{Refused}
+use Rattle.model.specs.declared.refusal.Refusal.{Refusal}
+use Rattle.model.specs.declared.reply.Reply.{Reply}
 use Rattle.promises.specs.Promises.{Promised}
 use Rattle.model.specs.FlightRecords.{calls_of, flight}
 use Rattle.model.specs.Promises.{executive}
@@ -15,24 +17,22 @@ use Rattle.draft.specs.declared.draft.Draft.{Draft}
 use Rattle.draft.specs.Drafts.{module_of}
 use Rattle.executive.specs.Sealing.{SealedAs}
 use Rattle.executive.specs.States.{clears, told_verdict}
-use Rattle.flight.specs.declared.parts.Extent.{Extent}
-use Rattle.flight.specs.declared.parts.Extent.TheVariants.{Complete, NoMemory}
 use Rattle.flight.specs.declared.parts.Flight.{Flight}
 
 -- the calls that were made of those given: all, or none where memory was wanting
-abbrev pub made_calls : Extent → List Call → List Call
-made_calls Complete cs = cs
-made_calls NoMemory cs = []
+abbrev pub made_calls : Result (Unit {0}) AllocError → List Call → List Call
+made_calls (Ok u) cs = cs
+made_calls (Err e) cs = []
 
 -- each call refused with 30
 abbrev pub all_refused : List Call → List Entry
-all_refused cs = map (λ c. record { call = c; answer = Refused NotCleared }) cs
+all_refused cs = map (λ c. record { call = c; answer = Err NotCleared }) cs
 
 -- each call with its answer, from a state on: the machine's, or 30 where the module is not cleared
 abbrev pub heard : Bool → Engine → Module → MachineState → List Call → List Entry
 heard cleared g m st [] = []
 heard cleared g m st (c ∷ cs) =
-    record { call = c; answer = cond cleared (reply g m st c) (Refused NotCleared) } ∷ heard cleared g m (cond cleared (after g m st c) st) cs
+    record { call = c; answer = cond cleared (reply g m st c) (Err NotCleared) } ∷ heard cleared g m (cond cleared (after g m st c) st) cs
 
 -- A flight of a draft from a tick, by what timetable and order mean. The module is sealed as `seal` says, with the verdict
 -- on the draft. The entries are of the calls that were made: of a module that is not cleared each is refused with 30, of a

@@ -4,13 +4,13 @@ ghost use Rattle.executive.specs.States.{clears, engine_of, sealed_module, state
 ghost use Rattle.flight.specs.Flights.{Flown, heard};
 
 use crate::asking::ask;
-use crate::parts::{Extent, Flight};
+use crate::parts::Flight;
 use dispatch::Dispatch;
 use draft::Draft;
 use executive::{Running, seal};
 use model::{Call, Entry};
 use order::LocalOrder;
-use std::alloc::Global;
+use std::alloc::{AllocError, Global};
 use timetable::Timetable;
 
 // Makes the calls one by one. There is room for their entries.
@@ -48,7 +48,7 @@ pub fn fly<T: Timetable, O: LocalOrder>(
         return Flight {
             sealed,
             entries: Vec::new(heap),
-            extent: Extent::NoMemory,
+            extent: Err(AllocError),
         };
     };
     match sealed.start(heap, tick) {
@@ -57,13 +57,13 @@ pub fn fly<T: Timetable, O: LocalOrder>(
             Flight {
                 sealed: running.stop(),
                 entries,
-                extent: Extent::Complete,
+                extent: Ok(()),
             }
         }
         Err(sealed) => Flight {
             sealed,
             entries,
-            extent: Extent::NoMemory,
+            extent: Err(AllocError),
         },
     }
 }

@@ -6,4 +6,4 @@ mod flying;
 mod parts;
 
 pub use flying::fly;
-pub use parts::{Extent, Flight};
+pub use parts::Flight;

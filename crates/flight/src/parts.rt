@@ -2,18 +2,13 @@
 use dispatch::ByOrder;
 use executive::Sealed;
 use model::Entry;
+use std::alloc::AllocError;
 
-// Whether all calls were made; memory can be wanting only before the first.
-#[derive(Clone, Copy)]
-pub enum Extent {
-    Complete,
-    NoMemory,
-}
-
-// The sealed module again, the entries of the flight record, and how far it goes.
+// The sealed module again, and the entries of the flight record. Its extent is whether all calls were made: memory can be
+// wanting only before the first.
 #[derive(Drop)]
 pub struct Flight<T, O> {
     pub sealed: Sealed<T, ByOrder<O>>,
     pub entries: Vec<Entry>,
-    pub extent: Extent,
+    pub extent: Result<(), AllocError>,
 }

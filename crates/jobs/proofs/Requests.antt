@@ -1,5 +1,5 @@
 -- What a request comes to: the states of the tasks as a list, the faults that are noted, and the machine's answer.
-use Rattle.std.proofs.Common.{◌≡◌, ℕ, zero, suc, ◌+◌, ◌<◌, ◌≤◌, min, Bool, true, false, ltb, leb, List, [], ◌∷◌, ◌++◌, length, get_or, set, replicate, is_some, Some, None, Ok, Err, Option, sym, refl, ap, ◌∙◌, ap₂, inl, inr, arith}
+use Rattle.std.proofs.Common.{◌≡◌, ℕ, zero, suc, ◌+◌, ◌<◌, ◌≤◌, min, Bool, true, false, ltb, leb, List, [], ◌∷◌, ◌++◌, length, get_or, set, replicate, is_some, Some, None, Ok, Err, Option, Result, sym, refl, ap, ◌∙◌, ap₂, inl, inr, arith}
 use mathlib.Core.Path.{fun_ext}
 use Rattle.std.proofs.lemmas.List.{get_or-set_same, get_or-set_other}
 use Rattle.std.proofs.lemmas.Bool.{cond-true, cond-false, lt-ltb, le-ltb, cases_eq, cases_Bool, true≢false}
@@ -11,7 +11,7 @@ use Rattle.model.specs.declared.refusal.Fault.{Fault}
 use Rattle.model.specs.declared.refusal.Refusal.{Refusal}
 use Rattle.model.specs.declared.refusal.Refusal.TheVariants.{NoSuchTask, TooSoon, NoOpenJob, NoSuchFault}
 use Rattle.model.specs.declared.reply.Reply.{Reply}
-use Rattle.model.specs.declared.reply.Reply.TheVariants.{Refused, Due, Count, Entry}
+use Rattle.model.specs.declared.reply.Reply.TheVariants.{Due, Count, Entry}
 use Rattle.model.specs.declared.task.Task.{Task}
 use Rattle.model.specs.Machine.{PartitionState, put, noted, ready, unless, refusal, ran_of, answered, released, closed, obeyed, told, asked, refused_of}
 use Rattle.model.specs.Modules.{task_of}
@@ -65,10 +65,10 @@ module _ (h : PartitionState) (f : Fault) where
 
 module _ (ks : List Task) (now : ℕ) (h : PartitionState) where
   -- the machine answers r to the request, and leaves that state
-  abbrev pub ComesTo : Request → Reply → PartitionState → Type 0
+  abbrev pub ComesTo : Request → Result Reply Refusal → PartitionState → Type 0
   ComesTo a r after = (r ≡ told (refusal ks now h a) (answered ks now h a)) × (after ≡ asked now h a (refusal ks now h a))
 
-  granted : (a : Request) → refusal ks now h a ≡ None → ComesTo a (answered ks now h a) (obeyed now h a)
+  granted : (a : Request) → refusal ks now h a ≡ None → ComesTo a (Ok (answered ks now h a)) (obeyed now h a)
   unfolding told asked
   granted a e = rw e (refl, refl)
 
@@ -77,10 +77,10 @@ module _ (ks : List Task) (now : ℕ) (h : PartitionState) where
   Noted a i = (n : Refusal) → asked now h a (Some n) ≡ noted h (record { refusal = n; task = i; tick = now })
 
   pub refused : (a : Request) (i u : ℕ) (n r : Refusal) (before after : PartitionState) → Noted a i → refusal ks now h a ≡ Some n →
-      r ≡ n → u ≡ now → before ≡ h → after ≡ noted before (record { refusal = n; task = i; tick = u }) → ComesTo a (Refused r) after
+      r ≡ n → u ≡ now → before ≡ h → after ≡ noted before (record { refusal = n; task = i; tick = u }) → ComesTo a (Err r) after
   unfolding told
   refused a i u n r before after notes e re ue be ae =
-      rw e (ap Refused re, ae ∙ (ap₂ (λ x v. noted x (record { refusal = n; task = i; tick = v })) be ue ∙ sym (notes n)))
+      rw e (ap Err re, ae ∙ (ap₂ (λ x v. noted x (record { refusal = n; task = i; tick = v })) be ue ∙ sym (notes n)))
 
   module _ (i : ℕ) where
     pub release_noted : Noted (request.Release i) i
@@ -109,7 +109,7 @@ module _ (ks : List Task) (now : ℕ) (h : PartitionState) where
         unfolding refusal unless
         release_by b f = let y = lt-ltb i (length ks) l in rw (y, f) refl
 
-        pub release_free : (k : ℕ) → Ok k ≡ outcome (h.tasks i) e → ComesTo (request.Release i) (Due (now + (task_of ks i).deadline)) (with_state h i (changed (h.tasks i) e))
+        pub release_free : (k : ℕ) → Ok k ≡ outcome (h.tasks i) e → ComesTo (request.Release i) (Ok (Due (now + (task_of ks i).deadline))) (with_state h i (changed (h.tasks i) e))
         unfolding unless answered obeyed
         release_free k q = elim (cases_Bool free) [
           | inl f ↦
@@ -137,14 +137,14 @@ module _ (ks : List Task) (now : ℕ) (h : PartitionState) where
       unfolding refusal unless
       end_by b f = let y = lt-ltb i (length ks) l in rw (y, f) refl
 
-      pub end_open : (k : ℕ) → Ok k ≡ outcome (h.tasks i) event.End → ComesTo (request.End i) (Count k) (with_state h i (changed (h.tasks i) event.End))
+      pub end_open : (k : ℕ) → Ok k ≡ outcome (h.tasks i) event.End → ComesTo (request.End i) (Ok (Count k)) (with_state h i (changed (h.tasks i) event.End))
       unfolding unless answered obeyed
       end_open k q = elim (cases_Bool (is_some (h.tasks i).job)) [
         | inl f ↦
             let w = granted (request.End i) (end_by true f) in
             let o : outcome (h.tasks i) event.End ≡ Ok (ran_of (h.tasks i).job) = cond-true _ _ _ f in
             let z : k ≡ ran_of (h.tasks i).job = cc in
-            (ap Count z ∙ w.0, w.1)
+            (ap (λ n. Ok (Count n)) z ∙ w.0, w.1)
         | inr f ↦
             let o : outcome (h.tasks i) event.End ≡ Err NoOpenJob = cond-false _ _ _ f in
             let z : ◌≡◌ {A = ℕ} 0 1 = cc in absurd (omega arith)
@@ -164,10 +164,10 @@ module _ (ks : List Task) (now : ℕ) (h : PartitionState) where
       ]
 
     -- a fault entry, which only looks
-    pub fault_past : length h.faults ≤ i → ComesTo (request.Fault i) (Refused NoSuchFault) h
+    pub fault_past : length h.faults ≤ i → ComesTo (request.Fault i) (Err NoSuchFault) h
     unfolding refusal unless told asked refused_of
     fault_past l = let n = le-ltb i (length h.faults) l in rw n (refl, refl)
 
-    pub fault_there : i < length h.faults → (f : Fault) → f ≡ get_or h.faults i (record { refusal = NoSuchFault; task = 0; tick = 0 }) → ComesTo (request.Fault i) (Entry f) h
+    pub fault_there : i < length h.faults → (f : Fault) → f ≡ get_or h.faults i (record { refusal = NoSuchFault; task = 0; tick = 0 }) → ComesTo (request.Fault i) (Ok (Entry f)) h
     unfolding refusal unless told asked answered obeyed
-    fault_there l f e = let y = lt-ltb i (length h.faults) l in rw y (ap Entry e, refl)
+    fault_there l f e = let y = lt-ltb i (length h.faults) l in rw y (ap (λ x. Ok (Entry x)) e, refl)

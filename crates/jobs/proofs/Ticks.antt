@@ -4,7 +4,7 @@ use mathlib.Core.Path.{fun_ext}
 use Rattle.std.proofs.lemmas.Bool.{cond-true, cond-false, eq-eqb, ne_eqb, cases_eq}
 use Rattle.model.specs.declared.job.TaskState.{TaskState}
 use Rattle.model.specs.declared.reply.Progress.{Progress}
-use Rattle.model.specs.declared.reply.Reply.TheVariants.{Idle, Ran}
+use Rattle.model.specs.declared.reply.Turn.TheVariants.{Idle, Ran}
 use Rattle.model.specs.declared.task.Task.{Task}
 use Rattle.model.specs.Machine.{DispatchRule, PartitionState, chosen, runner, is_runner, worked, late, ticked, progress, turn_reply, put}
 use Rattle.model.specs.Promises.{executive}

@@ -1,11 +1,13 @@
 -- Job tables: the state of the partition that a table stands for, and what the machine answers and leaves in that state.
-use Rattle.std.specs.Prelude.{◌≡◌, ℕ, false, List, Some, None, Ok, Err, vec_items, Option, Result}
+use Rattle.std.specs.Prelude.{◌≡◌, ℕ, false, List, Some, None, vec_items, Option, Result}
 use Rattle.std.specs.Option.{option_map}
+use Rattle.std.specs.Result.{result_map_both}
 use Rattle.model.specs.declared.call.Request.{Request}
 use Rattle.model.specs.declared.refusal.Refusal.{Refusal}
 use Rattle.model.specs.declared.reply.Progress.{Progress}
 use Rattle.model.specs.declared.reply.Reply.{Reply}
-use Rattle.model.specs.declared.reply.Reply.TheVariants.{Refused, Idle, Ran}
+use Rattle.model.specs.declared.reply.Turn.{Turn}
+use Rattle.model.specs.declared.reply.Turn.TheVariants.{Idle, Ran}
 use Rattle.model.specs.declared.task.Task.{Task}
 use Rattle.model.specs.Machine.{PartitionState, told, refusal, answered, asked, is_runner}
 use Rattle.jobs.specs.declared.job_table.JobTable.{JobTable}
@@ -19,20 +21,19 @@ abbrev pub state_of : JobTable → PartitionState
 state_of t = record { tasks = states_of (vec_items t.states); faults = vec_items t.faults; lost = t.lost }
 
 -- what the machine answers to a request at the tick `now`, in the table's state
-abbrev pub answer_to : JobTable → ℕ → Request → Reply
+abbrev pub answer_to : JobTable → ℕ → Request → Result Reply Refusal
 answer_to t now a = told (refusal (tasks_in t) now (state_of t) a) (answered (tasks_in t) now (state_of t) a)
 
 -- the state of the partition after the request
 abbrev pub state_after : JobTable → ℕ → Request → PartitionState
 state_after t now a = asked now (state_of t) a (refusal (tasks_in t) now (state_of t) a)
 
--- a table's answer as the machine's reply
-abbrev pub reply_of : {A : Type 0} → (A → Reply) → Result A Refusal → Reply
-reply_of reply (Ok x) = reply x
-reply_of reply (Err n) = Refused n
+-- a table's answer as the machine's: the reply that is made of its value, or the same refusal
+abbrev pub reply_of : {A : Type 0} → (A → Reply) → Result A Refusal → Result Reply Refusal
+reply_of reply answer = result_map_both reply (λ n. n) answer
 
--- what ran in a tick of partition p, as the machine's reply
-abbrev pub tick_reply_of : ℕ → Option (ℕ × Progress) → Reply
+-- what ran in a tick of partition p, as its turn
+abbrev pub tick_reply_of : ℕ → Option (ℕ × Progress) → Turn
 tick_reply_of p None = Idle p
 tick_reply_of p (Some ran) = Ran p ran.0 ran.1
 

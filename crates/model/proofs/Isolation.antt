@@ -1,16 +1,16 @@
 -- What a record says of partition p follows from p's own calls and the ticks alone.
-use Rattle.std.proofs.Common.{◌≡◌, ℕ, ◌+◌, ◌%◌, ◌≤◌, Bool, true, false, cond, not, ◌&&◌, ltb, List, [], ◌∷◌, length, Some, None, Option, sym, refl, ap, ◌∙◌, subst, ap₂, inl, inr, mod-lt, arith}
-use mathlib.Core.List.{map}
+use Rattle.std.proofs.Common.{◌≡◌, ℕ, ◌+◌, ◌%◌, ◌≤◌, Bool, true, false, cond, not, ◌&&◌, ltb, List, [], ◌∷◌, length, Some, None, Ok, Err, Option, Result, sym, refl, ap, ◌∙◌, subst, ap₂, inl, inr, mod-lt, arith}
 use mathlib.Core.Path.{fun_ext}
 use Rattle.std.proofs.lemmas.Bool.{both_ways, cases_eq, cases_lt, cond-false, cond-true, eq-eqb, eqb-true, le-ltb, lt-ltb, ne_eqb}
 use Rattle.model.specs.declared.call.Call.{Call}
 use Rattle.model.specs.declared.call.Request.{Request}
 use Rattle.model.specs.declared.job.TaskState.{TaskState}
+use Rattle.model.specs.declared.refusal.Refusal.{Refusal}
 use Rattle.model.specs.declared.reply.Reply.{Reply}
 use Rattle.model.specs.declared.task.Task.{Task}
 use Rattle.model.specs.declared.call.Call.TheVariants.{Of as call, Tick as tick}
 use Rattle.model.specs.declared.refusal.Refusal.TheVariants.{LastTick}
-use Rattle.model.specs.declared.reply.Reply.TheVariants.{Refused as refused}
+use Rattle.model.specs.declared.reply.Reply.TheVariants.{Turn as turn}
 use Rattle.model.specs.FlightRecords.{Entry, accepted, calls_of, concerns, flight, is_tick, names_other, own_entries, struck, ticks}
 use Rattle.model.specs.Machine.{Engine, MachineState, PartitionState, after, asked, chosen, closed, answered, is_runner, last_tick, late, new, one_on, overdue, put, refusal, reply, runner, since_of, tick_reply, ticked, told, turn_reply, worked}
 use Rattle.model.specs.Modules.{Module, has_partition, task_of, tasks_of}
@@ -32,8 +32,8 @@ module _ (g : Engine) (p : ℕ) (ts : List Task) where
   tick_state : ℕ → PartitionState → PartitionState
   tick_state now h = cond (ltb now last_tick) (ticked g p ts now h) h
 
-  tick_told : ℕ → PartitionState → Reply
-  tick_told now h = cond (ltb now last_tick) (turn_reply p ts h.tasks (chosen g p ts h.tasks)) (refused LastTick)
+  tick_told : ℕ → PartitionState → Result Reply Refusal
+  tick_told now h = cond (ltb now last_tick) (Ok (turn (turn_reply p ts h.tasks (chosen g p ts h.tasks)))) (Err LastTick)
 
   -- p's entries of a record, from p's own state and the calls that are kept
   pub solo : ℕ → PartitionState → List Call → List Entry
@@ -42,16 +42,6 @@ module _ (g : Engine) (p : ℕ) (ts : List Task) where
       cond (owned_by p (owner_at g.timetable now)) (record { call = tick; answer = tick_told now h } ∷ solo (tick_now now) (tick_state now h) cs) (solo (tick_now now) (tick_state now h) cs)
   solo now h (call q a ∷ cs) =
       record { call = call q a; answer = told (refusal ts now h a) (answered ts now h a) } ∷ solo now (asked now h a (refusal ts now h a)) cs
-
-turn_accepted : (p : ℕ) (ts : List Task) (xs : ℕ → TaskState) (o : Option ℕ) → accepted (turn_reply p ts xs o) ≡ true
-unfolding accepted turn_reply
-turn_accepted p ts xs None = refl
-turn_accepted p ts xs (Some i) = refl
-
-pub tick_accepted : (g : Engine) (m : Module) (st : MachineState) (o : Option ℕ) → accepted (tick_reply g m st o) ≡ true
-unfolding accepted tick_reply
-tick_accepted g m st None = refl
-tick_accepted g m st (Some p) = turn_accepted p _ _ _
 
 owner_is : (p : ℕ) (o : Option ℕ) → owned_by p o ≡ true → o ≡ Some p
 unfolding owned_by
@@ -68,10 +58,10 @@ module _ (g : Engine) (m : Module) where
   clock st tick = elim (cases_lt st.now last_tick) [
     | inl l ↦
         ap (λ (x : MachineState). x.now) (cond-true {A = MachineState} _ _ _ (lt-ltb _ _ l)) ∙
-        ap {B = ℕ} (λ b. st.now + cond b 1 0) (sym (ap accepted (cond-true {A = Reply} _ _ _ (lt-ltb _ _ l)) ∙ tick_accepted g m st _))
+        ap {B = ℕ} (λ b. st.now + cond b 1 0) (sym (ap accepted (cond-true {A = Result Reply Refusal} _ _ _ (lt-ltb _ _ l))))
     | inr l ↦
         ap (λ (x : MachineState). x.now) (cond-false {A = MachineState} _ _ _ (le-ltb _ _ l)) ∙ plus ∙
-        ap {B = ℕ} (λ b. st.now + cond b 1 0) (sym (ap accepted (cond-false {A = Reply} _ _ _ (le-ltb _ _ l))))
+        ap {B = ℕ} (λ b. st.now + cond b 1 0) (sym (ap accepted (cond-false {A = Result Reply Refusal} _ _ _ (le-ltb _ _ l))))
   ]
     where
       plus : st.now ≡ st.now + 0
@@ -94,7 +84,7 @@ module _ (g : Engine) (m : Module) where
 
     part_told : (st : MachineState) → owned_by p (owner_at g.timetable st.now) ≡ true → reply g m st tick ≡ tick_told g p (tasks_of m p) st.now (st.partitions p)
     unfolding reply tick_told tick_reply
-    part_told st o = ap (λ x. cond (ltb st.now last_tick) (tick_reply g m st x) (refused LastTick)) (owner_is p _ o)
+    part_told st o = ap (λ x. cond (ltb st.now last_tick) (Ok (turn (tick_reply g m st x))) (Err LastTick)) (owner_is p _ o)
 
     -- a call that names p
     own_after : (st : MachineState) (a : Request) → (after g m st (call p a)).partitions p ≡ asked st.now (st.partitions p) a (refusal (tasks_of m p) st.now (st.partitions p) a)
@@ -130,7 +120,7 @@ module _ (g : Engine) (m : Module) where
     unfolding own_entries flight solo kept concerns names_other
     own_call st a cs ih =
         cond-true _ _ _ (eq-eqb p p refl) ∙
-        ap₂ (λ (x : Reply) (r : List Entry). record { call = call p a; answer = x } ∷ r) (own_told st a) (rest st (call p a) cs _ _ (call_now st p a) (own_after st a) ih) ∙
+        ap₂ (λ (x : Result Reply Refusal) (r : List Entry). record { call = call p a; answer = x } ∷ r) (own_told st a) (rest st (call p a) cs _ _ (call_now st p a) (own_after st a) ih) ∙
         sym (ap (solo g p (tasks_of m p) st.now (st.partitions p)) (cond-false _ _ _ (ap not (eq-eqb p p refl))))
 
     other_call : (st : MachineState) (q : ℕ) (a : Request) (cs : List Call) → (q ≡ p → ⊥) → Goal (after g m st (call q a)) cs → Goal st (call q a ∷ cs)
@@ -145,7 +135,7 @@ module _ (g : Engine) (m : Module) where
       where
         go : (b : Bool) → owned_by p (owner_at g.timetable st.now) ≡ b → {r s : List Entry} → r ≡ s →
             cond b (entry_of st tick ∷ r) r ≡ cond b (record { call = tick; answer = tick_told g p (tasks_of m p) st.now (st.partitions p) } ∷ s) s
-        go true o e = ap₂ (λ (x : Reply) (y : List Entry). record { call = tick; answer = x } ∷ y) (part_told st o) e
+        go true o e = ap₂ (λ (x : Result Reply Refusal) (y : List Entry). record { call = tick; answer = x } ∷ y) (part_told st o) e
         go false o e = e
 
     pub alone : (st : MachineState) (cs : List Call) → Goal st cs
@@ -162,7 +152,7 @@ module _ (g : Engine) (m : Module) where
 
   -- what a record keeps of its calls
   pub calls_kept : (p : ℕ) (st : MachineState) (cs : List Call) → calls_of (struck p (flight g m st cs)) ≡ kept p cs
-  unfolding map struck flight kept
+  unfolding struck flight kept
   calls_kept p st [] = refl
   calls_kept p st (c ∷ cs) = go (names_other p c) (calls_kept p (after g m st c) cs)
     where
@@ -200,7 +190,7 @@ module _ (p : ℕ) (ts : List Task) (g h : Engine) (pos : 1 ≤ g.timetable.fram
 
   told_alike : (now : ℕ) (x : PartitionState) → tick_told g p ts now x ≡ tick_told h p ts now x
   unfolding tick_told
-  told_alike now x = ap (λ o. cond (ltb now last_tick) (turn_reply p ts x.tasks o) (refused LastTick)) (chosen_alike x.tasks)
+  told_alike now x = ap (λ o. cond (ltb now last_tick) (Ok (turn (turn_reply p ts x.tasks o))) (Err LastTick)) (chosen_alike x.tasks)
 
   held_alike : (now : ℕ) (x : PartitionState) → tick_state g p ts now x ≡ tick_state h p ts now x
   unfolding tick_state
@@ -216,7 +206,7 @@ module _ (p : ℕ) (ts : List Task) (g h : Engine) (pos : 1 ≤ g.timetable.fram
   solo_alike now x (tick ∷ cs) =
       go (own_at now) (told_alike now x) (ap₂ (λ n y. solo g p ts n y cs) (now_alike now) (held_alike now x) ∙ solo_alike (tick_now h p ts now) (tick_state h p ts now x) cs)
     where
-      go : {a b : Bool} {e f : Reply} {r s : List Entry} → a ≡ b → e ≡ f → r ≡ s → cond a (record { call = tick; answer = e } ∷ r) r ≡ cond b (record { call = tick; answer = f } ∷ s) s
+      go : {a b : Bool} {e f : Result Reply Refusal} {r s : List Entry} → a ≡ b → e ≡ f → r ≡ s → cond a (record { call = tick; answer = e } ∷ r) r ≡ cond b (record { call = tick; answer = f } ∷ s) s
       go o e r = λ k. cond (o k) (record { call = tick; answer = e k } ∷ r k) (r k)
   solo_alike now x (call q a ∷ cs) =
       ap (λ (r : List Entry). record { call = call q a; answer = told (refusal ts now x a) (answered ts now x a) } ∷ r) (solo_alike now (asked now x a (refusal ts now x a)) cs)

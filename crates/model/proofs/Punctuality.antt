@@ -1,5 +1,5 @@
 -- On a machine that is never late a job is ended or has run its cost by its deadline.
-use Rattle.std.proofs.Common.{◌≡◌, ℕ, ◌+◌, ◌<◌, ◌≤◌, Bool, true, false, cond, eqb, leb, ◌⊎◌, List, [], ◌∷◌, ◌++◌, length, is_some, Some, None, Option, sym, refl, ap, ◌∙◌, subst, ap₂, subst₂, inl, inr, arith}
+use Rattle.std.proofs.Common.{◌≡◌, ℕ, ◌+◌, ◌<◌, ◌≤◌, Bool, true, false, cond, eqb, leb, ◌⊎◌, List, [], ◌∷◌, ◌++◌, length, is_some, Some, None, Ok, Err, Option, Result, sym, refl, ap, ◌∙◌, subst, ap₂, subst₂, inl, inr, arith}
 use Rattle.std.proofs.lemmas.List.{append_assoc}
 use Rattle.std.proofs.lemmas.Bool.{and_from, and_left, and_parts, and_right, both_ways, cases_Bool, cases_eq, cases_lt, cond-false, cond-true, eq-eqb, eqb-true, lt-leb, lt-ltb, ltb-true, ne_eqb}
 use Rattle.model.specs.declared.call.Call.{Call}
@@ -12,7 +12,7 @@ use Rattle.model.specs.declared.task.Task.{Task}
 use Rattle.model.specs.declared.call.Call.TheVariants.{Of as call, Tick as tick}
 use Rattle.model.specs.declared.call.Request.TheVariants.{Clear as clear, End as end, Fault as fault, Release as release}
 use Rattle.model.specs.declared.refusal.Refusal.TheVariants.{NoOpenJob, NoSuchPartition, NoSuchTask, TooSoon}
-use Rattle.model.specs.declared.reply.Reply.TheVariants.{Refused as refused}
+use Rattle.model.specs.declared.reply.Reply.TheVariants.{Turn as turn}
 use Rattle.model.specs.FlightRecords.{Entry, FlightRecord, Served, accepted, asks_end, asks_release, calls_end, calls_release, ends, flight, how_many, is_tick, names_task, releases, runs, ticks, up_to}
 use Rattle.model.specs.Machine.{DispatchRule, Engine, MachineState, after, by_order, chosen, answered, is_runner, last_tick, new, one_on, put, ready, refusal, released, reply, runner, tick_reply, ticked, told, turn_reply, unless, worked}
 use Rattle.model.specs.Modules.{Module, has_partition, task_of, tasks_of}
@@ -54,7 +54,7 @@ told_not true true n k a h = absurd (both_ways true h refl)
 told_not true false n k a h = refl
 told_not false y n k a h = refl
 
-told_yes : (x y : Bool) (n k : Refusal) (a : Reply) → x ≡ true → y ≡ true → told (unless x n (unless y k None)) a ≡ a
+told_yes : (x y : Bool) (n k : Refusal) (a : Reply) → x ≡ true → y ≡ true → told (unless x n (unless y k None)) a ≡ Ok a
 unfolding unless told
 told_yes true true n k a e f = refl
 told_yes true false n k a e f = absurd (both_ways false refl f)
@@ -79,7 +79,7 @@ module _ (t : Timetable) (rule : DispatchRule) (m : Module) (p i : ℕ) (st : Ma
   cost = (task_of ts i).cost
 
   abbrev said : Option ℕ → Entry
-  said o = record { call = tick; answer = tick_reply G m st o }
+  said o = record { call = tick; answer = Ok (turn (tick_reply G m st o)) }
 
   -- the task after the tick's work, by who owns the tick and whom p would choose
   abbrev work : Option ℕ → Option ℕ → TaskState
@@ -108,8 +108,8 @@ module _ (t : Timetable) (rule : DispatchRule) (m : Module) (p i : ℕ) (st : Ma
         mine : is_runner (cond (owned_by p (Some p)) (Some k) None) i ≡ eqb i k
         mine = ap (λ x. is_runner (cond x (Some k) None) i) (eq-eqb p p refl)
 
-        names : i ≡ k → names_task p i (turn_reply p ts xs (chosen G p ts xs)) ≡ true
-        names z = ap (λ o. names_task p i (turn_reply p ts xs o)) e ∙ and_from _ _ (eq-eqb p p refl) (eq-eqb k i (sym z))
+        names : i ≡ k → names_task p i (Ok (turn (turn_reply p ts xs (chosen G p ts xs)))) ≡ true
+        names z = ap (λ o. names_task p i (Ok (turn (turn_reply p ts xs o)))) e ∙ and_from _ _ (eq-eqb p p refl) (eq-eqb k i (sym z))
 
     by_owner : (o : Option ℕ) → Next p i cost b (said o) (work o (chosen G p ts xs))
     unfolding owned_by is_runner
@@ -136,7 +136,7 @@ module _ (t : Timetable) (rule : DispatchRule) (m : Module) (p i : ℕ) (st : Ma
       unfolding after ticked worked runner
       task_ticked l = ap (λ (x : MachineState). (x.partitions p).tasks i) (cond-true {A = MachineState} _ _ _ (lt-ltb _ _ l)) ∙ cond-false _ _ _ (not_late t rule m ok st quiet_now l p i)
 
-      tick_said : st.now < last_tick → reply G m st tick ≡ tick_reply G m st (owner_at t st.now)
+      tick_said : st.now < last_tick → reply G m st tick ≡ Ok (turn (tick_reply G m st (owner_at t st.now)))
       unfolding reply
       tick_said l = cond-true _ _ _ (lt-ltb _ _ l)
 
@@ -162,7 +162,7 @@ module _ (t : Timetable) (rule : DispatchRule) (m : Module) (p i : ℕ) (st : Ma
       unfolding ends calls_end asks_end reply refusal accepted answered
       ends_it l =
           and_from _ _ (and_from _ _ (eq-eqb p p refl) (eq-eqb i i refl))
-          (ap accepted (cond-true {A = Reply} (has_partition m p) _ (refused NoSuchPartition) l ∙ told_yes _ _ NoSuchTask NoOpenJob (answered ts st.now (st.partitions p) (end i)) (lt-ltb _ _ il) (ap (λ (x : TaskState). is_some x.job) open_at)))
+          (ap accepted (cond-true {A = Result Reply Refusal} (has_partition m p) _ (Err NoSuchPartition) l ∙ told_yes _ _ NoSuchTask NoOpenJob (answered ts st.now (st.partitions p) (end i)) (lt-ltb _ _ il) (ap (λ (x : TaskState). is_some x.job) open_at)))
 
       end_step : (j : ℕ) → has_partition m p ≡ true → Step (call p (end j))
       end_step j l = elim (cases_eq i j) [
@@ -310,9 +310,9 @@ module _ (t : Timetable) (rule : DispatchRule) (m : Module) (p i : ℕ) (st : Ma
   unfolding reply refusal accepted
   opened h = elim (cases_Bool (has_partition m p)) [
     | inl l ↦
-        let v = told_both _ _ NoSuchTask TooSoon _ (ap accepted (sym (cond-true _ _ (refused NoSuchPartition) l)) ∙ h) in
+        let v = told_both _ _ NoSuchTask TooSoon _ (ap accepted (sym (cond-true _ _ (Err NoSuchPartition) l)) ∙ h) in
         (ltb-true _ _ v.0, ap (λ (w : one.State). w.tasks i) (view_release (plain t rule) m p st i l ∙ cond-true _ _ _ (and_from _ _ v.0 v.1)) ∙ put_same _ i _)
-    | inr l ↦ absurd (both_ways _ (ap accepted (cond-false {A = Reply} _ _ (refused NoSuchPartition) l)) h)
+    | inr l ↦ absurd (both_ways _ (ap accepted (cond-false {A = Result Reply Refusal} _ _ (Err NoSuchPartition) l)) h)
   ]
 
 module _ (t : Timetable) (rule : DispatchRule) (m : Module) (ok : Limits m) (still : NeverLate (plain t rule) m) where

@@ -1,17 +1,18 @@
 -- Under any dispatch rule: a machine that is never late need not look for late jobs.
-use Rattle.std.proofs.Common.{◌≡◌, ℕ, ◌+◌, ◌<◌, ◌≤◌, Bool, true, false, cond, ltb, List, [], ◌∷◌, ◌++◌, length, Some, None, Option, sym, refl, ap, ◌∙◌, subst, ap₂, inl, inr, arith}
+use Rattle.std.proofs.Common.{◌≡◌, ℕ, ◌+◌, ◌<◌, ◌≤◌, Bool, true, false, cond, ltb, List, [], ◌∷◌, ◌++◌, length, Some, None, Ok, Err, Option, Result, sym, refl, ap, ◌∙◌, subst, ap₂, inl, inr, arith}
 use mathlib.Core.Path.{fun_ext}
 use Rattle.std.proofs.lemmas.Bool.{and_parts, cases_Bool, cases_eq, cases_lt, cond-false, cond-true, le-ltb, leb-false, lt-ltb, ltb-true}
 use Rattle.model.specs.declared.call.Call.{Call}
 use Rattle.model.specs.declared.call.Request.{Request}
 use Rattle.model.specs.declared.job.Job.{Job}
 use Rattle.model.specs.declared.job.TaskState.{TaskState}
+use Rattle.model.specs.declared.refusal.Refusal.{Refusal}
 use Rattle.model.specs.declared.reply.Reply.{Reply}
 use Rattle.model.specs.declared.task.Task.{Task}
 use Rattle.model.specs.declared.call.Call.TheVariants.{Of as call, Tick as tick}
 use Rattle.model.specs.declared.call.Request.TheVariants.{Clear as clear, End as end, Fault as fault, Release as release}
 use Rattle.model.specs.declared.refusal.Refusal.TheVariants.{LastTick}
-use Rattle.model.specs.declared.reply.Reply.TheVariants.{Refused as refused}
+use Rattle.model.specs.declared.reply.Reply.TheVariants.{Turn as turn}
 use Rattle.model.specs.FlightRecords.{ClosesLate, Entry, flight, flown}
 use Rattle.model.specs.Machine.{DispatchRule, Engine, MachineState, PartitionState, after, chosen, closed, is_runner, last_tick, late, new, one_on, overdue, put, released, reply, runner, tick_reply, ticked, worked}
 use Rattle.model.specs.Modules.{Module, has_partition, task_of, tasks_of}
@@ -132,7 +133,7 @@ module _ (t : Timetable) (rule : DispatchRule) (m : Module) (ok : Limits m) wher
   unfolding reply tick_reply chosen
   same_reply st tick = go (owner_at t st.now)
     where
-      go : (o : Option ℕ) → cond (ltb st.now last_tick) (tick_reply u m st o) (refused LastTick) ≡ cond (ltb st.now last_tick) (tick_reply v m st o) (refused LastTick)
+      go : (o : Option ℕ) → cond (ltb st.now last_tick) (Ok (turn (tick_reply u m st o))) (Err LastTick) ≡ cond (ltb st.now last_tick) (Ok (turn (tick_reply v m st o))) (Err LastTick)
       go None = refl
       go (Some p) = refl
   same_reply st (call p a) = refl
@@ -171,5 +172,5 @@ module _ (t : Timetable) (rule : DispatchRule) (m : Module) (ok : Limits m) wher
   unfolding flight
   same_flight st [] h = refl
   same_flight st (c ∷ cs) h =
-      ap₂ (λ (a : Reply) (r : List Entry). record { call = c; answer = a } ∷ r) (same_reply st c)
+      ap₂ (λ (a : Result Reply Refusal) (r : List Entry). record { call = c; answer = a } ∷ r) (same_reply st c)
       (ap (λ x. flight u m x cs) (same_after st c h) ∙ same_flight (after v m st c) cs (quiet_after st c h))

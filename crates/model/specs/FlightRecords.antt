@@ -1,14 +1,16 @@
 -- Flight records: calls with their answers, in order, and what they say of jobs.
-use Rattle.std.specs.Prelude.{◌≡◌, ℕ, ◌+◌, ◌<◌, ◌≤◌, Bool, true, false, cond, not, ◌&&◌, ◌⊎◌, List, [], ◌∷◌, ◌++◌, map, ◌==◌}
+use Rattle.std.specs.Prelude.{◌≡◌, ℕ, ◌+◌, ◌<◌, ◌≤◌, Bool, true, false, cond, not, ◌&&◌, ◌⊎◌, List, [], ◌∷◌, ◌++◌, map, is_ok, Ok, Result, ◌==◌}
 use Rattle.model.specs.declared.call.Call.{Call}
 use Rattle.model.specs.declared.call.Request.{Request}
+use Rattle.model.specs.declared.refusal.Refusal.{Refusal}
 use Rattle.model.specs.declared.reply.Reply.{Reply}
 use Rattle.model.specs.Modules.{Module, HasTask, tasks_of}
 use Rattle.model.specs.Timetables.{Timetable, owner_at, owned_by}
 use Rattle.model.specs.Machine.{Engine, MachineState, new, reply, after, late, last_tick}
 use Rattle.model.specs.declared.call.Request.TheVariants.{Release as release, End as end, Fault as fault, Clear as clear}
 use Rattle.model.specs.declared.call.Call.TheVariants.{Tick as tick, Of as call}
-use Rattle.model.specs.declared.reply.Reply.TheVariants.{Refused as refused, Spare as spare, Idle as idle, Ran as ran, Due as due, Count as count, Entry as entry, Emptied as emptied}
+use Rattle.model.specs.declared.reply.Reply.TheVariants.{Turn as turn}
+use Rattle.model.specs.declared.reply.Turn.TheVariants.{Ran as ran}
 -- A call with its answer is an `Entry`, declared with the types of the code: `call` and `answer`.
 pub use Rattle.model.specs.declared.entry.Entry.{Entry}
 
@@ -38,15 +40,8 @@ LateRecord g m start r =
     ClosesLate g m (flown g m (new start) earlier)
 
 -- the call was not refused
-unfoldable pub accepted : Reply → Bool
-accepted (refused n) = false
-accepted spare = true
-accepted (idle p) = true
-accepted (ran p i f) = true
-accepted (due d) = true
-accepted (count n) = true
-accepted (entry f) = true
-accepted (emptied n l) = true
+unfoldable pub accepted : Result Reply Refusal → Bool
+accepted r = is_ok r
 
 -- the call is a tick
 unfoldable pub is_tick : Call → Bool
@@ -78,15 +73,9 @@ calls_end p i tick = false
 calls_end p i (call q a) = q == p && asks_end i a
 
 -- the answer names partition p and task i as having run
-unfoldable pub names_task : ℕ → ℕ → Reply → Bool
-names_task p i (refused n) = false
-names_task p i spare = false
-names_task p i (idle q) = false
-names_task p i (ran q j f) = q == p && j == i
-names_task p i (due d) = false
-names_task p i (count n) = false
-names_task p i (entry f) = false
-names_task p i (emptied n l) = false
+unfoldable pub names_task : ℕ → ℕ → Result Reply Refusal → Bool
+names_task p i (Ok (turn (ran q j f))) = q == p && j == i
+names_task p i r = false
 
 -- an accepted tick
 unfoldable pub ticks : Entry → Bool

@@ -8,6 +8,7 @@ pub mod InTime
 pub mod Verdicts
 pub mod Planning
 pub mod Refusals
+pub mod Turns
 pub mod Machine
 pub mod FlightRecords
 pub mod Promises

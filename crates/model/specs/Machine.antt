@@ -1,5 +1,5 @@
 -- The plain machine: what each call answers, and the state after it.
-use Rattle.std.specs.Prelude.{ℕ, ◌+◌, min, Bool, false, cond, ◌&&◌, List, [], ◌∷◌, ◌++◌, length, is_some, Some, None, Option, ◌==◌, nat_le, nat_lt, slice_index_or}
+use Rattle.std.specs.Prelude.{ℕ, ◌+◌, min, Bool, false, cond, ◌&&◌, List, [], ◌∷◌, ◌++◌, length, is_some, Some, None, Ok, Err, Option, Result, ◌==◌, nat_le, nat_lt, slice_index_or}
 use Rattle.model.specs.declared.call.Call.{Call}
 use Rattle.model.specs.declared.call.Request.{Request}
 use Rattle.model.specs.declared.job.Job.{Job}
@@ -8,6 +8,7 @@ use Rattle.model.specs.declared.refusal.Fault.{Fault}
 use Rattle.model.specs.declared.refusal.Refusal.{Refusal}
 use Rattle.model.specs.declared.reply.Progress.{Progress}
 use Rattle.model.specs.declared.reply.Reply.{Reply}
+use Rattle.model.specs.declared.reply.Turn.{Turn}
 use Rattle.model.specs.declared.task.Task.{Task}
 use Rattle.model.specs.declared.task_record.TaskRecord.{TaskRecord}
 use Rattle.model.specs.Modules.{Module, task_of, tasks_of, has_partition}
@@ -17,7 +18,8 @@ use Rattle.model.specs.Ranges.{first_such}
 use Rattle.model.specs.declared.refusal.Refusal.TheVariants.{NoSuchPartition, NoSuchTask, TooSoon, NoOpenJob, NoSuchFault, LastTick}
 use Rattle.model.specs.declared.call.Request.TheVariants.{Release as release, End as end, Fault as fault, Clear as clear}
 use Rattle.model.specs.declared.call.Call.TheVariants.{Tick as tick, Of as call}
-use Rattle.model.specs.declared.reply.Reply.TheVariants.{Refused as refused, Spare as spare, Idle as idle, Ran as ran, Due as due, Count as count, Entry as entry, Emptied as emptied}
+use Rattle.model.specs.declared.reply.Reply.TheVariants.{Turn as turn, Due as due, Count as count, Entry as entry, Emptied as emptied}
+use Rattle.model.specs.declared.reply.Turn.TheVariants.{Spare as spare, Idle as idle, Ran as ran}
 use Rattle.model.specs.declared.reply.Progress.TheVariants.{Open as still_open, Spent as spent}
 
 -- the last tick
@@ -123,12 +125,12 @@ progress None = spent
 progress (Some b) = still_open
 
 -- what the tick answers by the chosen task of its owner p
-unfoldable pub turn_reply : ℕ → List Task → (ℕ → TaskState) → Option ℕ → Reply
+unfoldable pub turn_reply : ℕ → List Task → (ℕ → TaskState) → Option ℕ → Turn
 turn_reply p ks xs None = idle p
 turn_reply p ks xs (Some i) = ran p i (progress (one_on (task_of ks i).cost (xs i).job))
 
 -- what the tick answers by its owner
-unfoldable pub tick_reply : Engine → Module → MachineState → Option ℕ → Reply
+unfoldable pub tick_reply : Engine → Module → MachineState → Option ℕ → Turn
 tick_reply g m st None = spare
 tick_reply g m st (Some p) =
     turn_reply p (tasks_of m p) (st.partitions p).tasks (chosen g p (tasks_of m p) (st.partitions p).tasks)
@@ -194,9 +196,9 @@ refused_of now h (fault k) n = h
 refused_of now h clear n = h
 
 -- the answer to a request
-unfoldable pub told : Option Refusal → Reply → Reply
-told None a = a
-told (Some n) a = refused n
+unfoldable pub told : Option Refusal → Reply → Result Reply Refusal
+told None a = Ok a
+told (Some n) a = Err n
 
 -- the partition after a request
 unfoldable pub asked : ℕ → PartitionState → Request → Option Refusal → PartitionState
@@ -204,12 +206,12 @@ asked now h a None = obeyed now h a
 asked now h a (Some n) = refused_of now h a n
 
 -- the answer to a call
-unfoldable pub reply : Engine → Module → MachineState → Call → Reply
-reply g m st tick = cond (nat_lt st.now last_tick) (tick_reply g m st (owner_at g.timetable st.now)) (refused LastTick)
+unfoldable pub reply : Engine → Module → MachineState → Call → Result Reply Refusal
+reply g m st tick = cond (nat_lt st.now last_tick) (Ok (turn (tick_reply g m st (owner_at g.timetable st.now)))) (Err LastTick)
 reply g m st (call p a) =
     cond (has_partition m p)
     (told (refusal (tasks_of m p) st.now (st.partitions p) a) (answered (tasks_of m p) st.now (st.partitions p) a))
-    (refused NoSuchPartition)
+    (Err NoSuchPartition)
 
 -- the state after a call
 unfoldable pub after : Engine → Module → MachineState → Call → MachineState

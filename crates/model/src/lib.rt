@@ -17,7 +17,7 @@ pub use call::{Call, Request};
 pub use entry::Entry;
 pub use job::{Job, TaskState};
 pub use refusal::{Fault, Refusal};
-pub use reply::{Progress, Reply};
+pub use reply::{Progress, Reply, Turn};
 pub use task::Task;
 pub use task_record::TaskRecord;
 pub use verdict::{LateTask, Verdict};

@@ -1,6 +1,6 @@
 -- The calls release each task as early as allowed: at each tick the next allowed release of a task is the first multiple
 -- of its period from that tick on.
-use Rattle.std.proofs.Common.{◌≡◌, ℕ, zero, suc, ◌+◌, ◌%◌, ◌<◌, ◌≤◌, Bool, true, false, cond, ◌&&◌, ◌||◌, eqb, ltb, leb, ◌⊎◌, List, [], ◌∷◌, ◌++◌, length, get_or, None, Option, sym, refl, ap, ◌∙◌, subst, subst₂, inl, inr, arith}
+use Rattle.std.proofs.Common.{◌≡◌, ℕ, zero, suc, ◌+◌, ◌%◌, ◌<◌, ◌≤◌, Bool, true, false, cond, ◌&&◌, ◌||◌, eqb, ltb, leb, ◌⊎◌, List, [], ◌∷◌, ◌++◌, length, get_or, None, Ok, Err, Option, sym, refl, ap, ◌∙◌, subst, subst₂, inl, inr, arith}
 use native.Mathlib.Nat.{zero-mod}
 use Rattle.std.proofs.lemmas.List.{append_assoc, append-nil, get_or_at, length-append, length_push}
 use Rattle.std.proofs.lemmas.Bool.{and_from, and_left, and_right, both_ways, cases_Bool, cases_eq, cases_lt, cond-false, cond-true, eq-eqb, eqb-false, eqb-true, le-leb, le-ltb, lt-leb, lt-ltb, ne_eqb, or_from, or_left, or_right}
@@ -10,13 +10,11 @@ use Rattle.model.specs.declared.call.Request.TheVariants.{Release as release}
 use Rattle.model.specs.declared.job.TaskState.{TaskState}
 use Rattle.model.specs.declared.refusal.Refusal.TheVariants.{NoSuchTask, TooSoon}
 use Rattle.model.specs.declared.reply.Reply.{Reply}
-use Rattle.model.specs.declared.reply.Reply.TheVariants.{Refused as refused}
 use Rattle.model.specs.declared.task.Task.{Task}
 use Rattle.model.specs.FlightRecords.{accepted, flown}
 use Rattle.model.specs.Machine.{Engine, MachineState, after, answered, closed, last_tick, late, new, put, ready, refusal, released, reply, ticked, told, unless, worked}
 use Rattle.model.specs.Timetables.{bare_frame}
 use Rattle.model.specs.Modules.{HasTask, Module, has_partition, module_within, task, task_in, task_of, tasks_of}
-use Rattle.model.proofs.Isolation.{tick_accepted}
 use Rattle.model.proofs.Limits.{Limits, has_part, limits}
 use Rattle.model.proofs.OnePartition as one
 use Rattle.model.proofs.OwnView.{view, view_other, view_release, with_tasks}
@@ -61,7 +59,7 @@ passed_next m q p i k = elim (cases_lt p q) [
 ]
 
 -- a request for a release, by whether the task exists and whether it may be released
-release_told : (x y : Bool) (a : Reply) → x ≡ true → told (unless x NoSuchTask (unless y TooSoon None)) a ≡ cond y a (refused TooSoon)
+release_told : (x y : Bool) (a : Reply) → x ≡ true → told (unless x NoSuchTask (unless y TooSoon None)) a ≡ cond y (Ok a) (Err TooSoon)
 unfolding told unless
 release_told true true a h = refl
 release_told true false a h = refl
@@ -84,7 +82,7 @@ module _ (g : Engine) (m : Module) where
   record Fine (st : MachineState) (c : Call) : Type 0 where
     kind : (c ≡ tick) ⊎ ((p : ℕ) × (i : ℕ) × HasTask m p i × (c ≡ call p (release i)))
     granted : accepted (reply g m st c) ≡ true
-    none_left : c ≡ tick → (p i : ℕ) → HasTask m p i → reply g m st (call p (release i)) ≡ refused TooSoon
+    none_left : c ≡ tick → (p i : ℕ) → HasTask m p i → reply g m st (call p (release i)) ≡ Err TooSoon
 
   -- by a task's last release, its next is allowed at the first multiple of its period from u on, or from the next tick on
   abbrev Due : ℕ → Bool → ℕ → ℕ → Option ℕ → Type 0
@@ -96,7 +94,7 @@ module _ (g : Engine) (m : Module) where
     due : (p i : ℕ) → HasTask m p i → Due u (passed q j p i) p i ((st.partitions p).tasks i).last
 
   release_reply : (st : MachineState) (p i : ℕ) → HasTask m p i →
-      reply g m st (call p (release i)) ≡ cond (leb (ready (task_in m p i).period ((st.partitions p).tasks i).last) st.now) (answered (tasks_of m p) st.now (st.partitions p) (release i)) (refused TooSoon)
+      reply g m st (call p (release i)) ≡ cond (leb (ready (task_in m p i).period ((st.partitions p).tasks i).last) st.now) (Ok (answered (tasks_of m p) st.now (st.partitions p) (release i))) (Err TooSoon)
   unfolding reply refusal
   release_reply st p i l = cond-true _ _ _ (lt-ltb p (length m) (has_part m p i l)) ∙ release_told _ _ _ (lt-ltb i (length (tasks_of m p)) l)
 
@@ -201,8 +199,8 @@ module _ (g : Engine) (m : Module) where
       tick_now = ap (λ (x : MachineState). x.now) (cond-true {A = MachineState} _ _ _ (lt-ltb _ _ l))
 
       tick_granted : accepted (reply g m st tick) ≡ true
-      unfolding reply
-      tick_granted = ap accepted (cond-true _ _ _ (lt-ltb _ _ l)) ∙ tick_accepted g m st _
+      unfolding reply accepted
+      tick_granted = ap accepted (cond-true _ _ _ (lt-ltb _ _ l))
 
     tick_goes : u < last_tick → (st : MachineState) → Stage (length m) 0 u st → Goes g m Fine st (tick ∷ []) (Stage 0 0 (suc u))
     unfolding flown

@@ -1,10 +1,9 @@
 -- The calls that release each task as early as allowed from tick 0 on.
-use Rattle.std.specs.Prelude.{◌≡◌, ℕ, zero, suc, ◌+◌, ◌%◌, true, cond, ◌⊎◌, List, [], ◌∷◌, ◌++◌, ◌==◌}
+use Rattle.std.specs.Prelude.{◌≡◌, ℕ, zero, suc, ◌+◌, ◌%◌, true, cond, ◌⊎◌, List, [], ◌∷◌, ◌++◌, Err, ◌==◌}
 use Rattle.model.specs.declared.call.Call.{Call}
 use Rattle.model.specs.declared.call.Call.TheVariants.{Tick as tick, Of as call}
 use Rattle.model.specs.declared.call.Request.TheVariants.{Release as release}
 use Rattle.model.specs.declared.refusal.Refusal.TheVariants.{TooSoon}
-use Rattle.model.specs.declared.reply.Reply.TheVariants.{Refused as refused}
 use Rattle.model.specs.declared.task.Task.{Task}
 use Rattle.model.specs.Modules.{Module, HasTask}
 use Rattle.model.specs.Machine.{Engine, new, reply}
@@ -42,5 +41,5 @@ pub record AsEarlyAsAllowed (m : Module) (f : ℕ) (cs : List Call) : Type 0 whe
   pub all_accepted : (g : Engine) (earlier later : List Call) (c : Call) → cs ≡ earlier ++ (c ∷ later) →
       accepted (reply g m (flown g m (new 0) earlier) c) ≡ true
   pub none_left : (g : Engine) (earlier later : List Call) → cs ≡ earlier ++ (tick ∷ later) → (p i : ℕ) → HasTask m p i →
-      reply g m (flown g m (new 0) earlier) (call p (release i)) ≡ refused TooSoon
+      reply g m (flown g m (new 0) earlier) (call p (release i)) ≡ Err TooSoon
   pub all_ticks : (g : Engine) → (flown g m (new 0) cs).now ≡ f

@@ -8,7 +8,7 @@ ghost use Rattle.trace_listing.specs.Traces.{trace as text_of};
 ghost use Rattle.tape_trace.specs.Traced.{traced, traced_if, verdict_text};
 
 use draft::Draft;
-use flight::{Extent, fly};
+use flight::fly;
 use listing::number_line;
 use model::{Entry, Verdict, Window};
 use order::Listed;
@@ -18,20 +18,12 @@ use tape_reader::{ReadRefusal, read};
 use timetable::WindowList;
 use trace_listing::trace_text;
 
-const NO_WINDOW: Window = Window {
-    partition: 0,
-    start: 0,
-    length: 0,
-};
-
 // The number of the refusal; where memory was wanting it is so here too.
 fn refusal_text(heap: Global, refusal: ReadRefusal) -> Result<String, AllocError>
     ensures { IfOk result (λ s. traced_if (told_fault refusal) (string_bytes s)) }
 {
-    match refusal.number() {
-        Some(number) => number_line(heap, number),
-        None => Err(AllocError),
-    }
+    let number = refusal.number().ok_or(AllocError)?;
+    number_line(heap, number)
 }
 
 // The text of a flight record, where the verdict clears; else the verdict's number.
@@ -56,10 +48,8 @@ fn module_text(
     let table = WindowList::open(heap, frame, windows)?;
     let calls = earliest_releases(heap, &draft, frame)?;
     let flight = fly(heap, draft, table, Listed, 0, calls.as_slice());
-    match flight.extent {
-        Extent::Complete => verdict_text(heap, flight.sealed.verdict(), flight.entries.as_slice()),
-        Extent::NoMemory => Err(AllocError),
-    }
+    flight.extent?;
+    verdict_text(heap, flight.sealed.verdict(), flight.entries.as_slice())
 }
 
 // The trace of a tape.
@@ -67,7 +57,7 @@ pub fn trace(heap: Global, tape: &[u8]) -> Result<String, AllocError>
     ensures { IfOk result (λ s. string_bytes s ≡ traced (decode tape.now)) }
 {
     let mut draft = Draft::new(heap);
-    let mut windows = [NO_WINDOW; 64];
+    let mut windows = [Window::default(); 64];
     match read(heap, tape, &mut draft, &mut windows) {
         Ok(loaded) => module_text(
             heap,

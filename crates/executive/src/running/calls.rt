@@ -1,25 +1,24 @@
 // The calls of a running module. None allocates.
-ghost use Rattle.std.specs.Prelude.{◌≡◌, ◌+◌, ◌<◌, Some};
+ghost use Rattle.std.specs.Prelude.{◌≡◌, ◌+◌, ◌<◌, Ok, Some};
 ghost use Rattle.model.specs.Machine.{after as state_after, last_tick, reply as reply_to};
 ghost use Rattle.model.specs.Timetables.{owner_at};
 ghost use Rattle.model.specs.declared.call.Call.TheVariants as call;
 ghost use Rattle.model.specs.declared.call.Request.TheVariants as request;
 ghost use Rattle.model.specs.declared.reply.Reply.TheVariants as reply;
 ghost use Rattle.jobs.specs.Tables.{reply_of};
-ghost use Rattle.executive.specs.Calls.{Answered, OnlyRunnerWritten, emptied_of, turn_of};
+ghost use Rattle.executive.specs.Calls.{Answered, OnlyRunnerWritten, emptied_of};
 ghost use Rattle.executive.specs.States.{engine_of, partitions_of, sealed_module, state_in};
 
 use super::Running;
 use crate::sealed::Sealed;
-use crate::turn::Turn;
 use dispatch::Dispatch;
-use model::{Fault, Refusal};
+use model::{Fault, Refusal, Turn};
 use timetable::Timetable;
 
 impl<T: Timetable, D: Dispatch> Running<T, D> {
     // The job of partition `p` that goes first, if one is open, runs.
     fn turn(&mut self, p: u8) -> Turn
-        ensures answer { owner_at (T.Timetable.means self.old.sealed.table) self.old.clock.tick ≡ Some p → self.old.clock.tick < last_tick → turn_of result ≡ reply_to (engine_of T.Timetable.means D.Dispatch.rule self.old.sealed) (sealed_module self.old.sealed) (state_in self.old) call.Tick }
+        ensures answer { owner_at (T.Timetable.means self.old.sealed.table) self.old.clock.tick ≡ Some p → self.old.clock.tick < last_tick → Ok (reply.Turn result) ≡ reply_to (engine_of T.Timetable.means D.Dispatch.rule self.old.sealed) (sealed_module self.old.sealed) (state_in self.old) call.Tick }
         ensures after { owner_at (T.Timetable.means self.old.sealed.table) self.old.clock.tick ≡ Some p → self.old.clock.tick < last_tick → record { now = self.old.clock.tick + 1; partitions = partitions_of self.new.tables.items } ≡ state_after (engine_of T.Timetable.means D.Dispatch.rule self.old.sealed) (sealed_module self.old.sealed) (state_in self.old) call.Tick }
         ensures same { self.new.sealed ≡ self.old.sealed }
         ensures clock { self.new.clock ≡ self.old.clock }
@@ -35,7 +34,7 @@ impl<T: Timetable, D: Dispatch> Running<T, D> {
 
     // The owner of the clock's place has its turn.
     fn advance(&mut self) -> Result<Turn, Refusal>
-        ensures { Answered T.Timetable.means D.Dispatch.rule self.old self.new call.Tick (reply_of turn_of result) }
+        ensures { Answered T.Timetable.means D.Dispatch.rule self.old self.new call.Tick (reply_of reply.Turn result) }
     {
         if !self.sealed.is_cleared() {
             return Err(Refusal::NotCleared);
@@ -59,8 +58,8 @@ impl<T: Timetable, D: Dispatch> Running<T, D> {
     // One tick: the owner of the clock's place has its turn. It looks for no late job, and writes no job but the one that
     // runs. Refused with 30 and 41.
     pub fn tick(&mut self) -> Result<Turn, Refusal>
-        ensures answered { Answered T.Timetable.means D.Dispatch.rule self.old self.new call.Tick (reply_of turn_of result) }
-        ensures only { OnlyRunnerWritten (state_in self.old) (state_in self.new) (reply_of turn_of result) }
+        ensures answered { Answered T.Timetable.means D.Dispatch.rule self.old self.new call.Tick (reply_of reply.Turn result) }
+        ensures only { OnlyRunnerWritten (state_in self.old) (state_in self.new) (reply_of reply.Turn result) }
     {
         self.advance()
     }

@@ -1,5 +1,5 @@
 // The calls on a job table. None but `new` allocates.
-ghost use Rattle.std.specs.Prelude.{◌≡◌, ℕ, ◌<◌, IfOk, Some, vec_len};
+ghost use Rattle.std.specs.Prelude.{◌≡◌, ℕ, ◌<◌, IfOk, Ok, Some, vec_len};
 ghost use Rattle.draft.specs.Drafts.{module_of};
 ghost use Rattle.model.specs.Machine.{untouched, noted, chosen, progress, turn_reply, ticked};
 ghost use Rattle.model.specs.Modules.{tasks_of};
@@ -123,7 +123,7 @@ impl JobTable {
 
     // Empties the fault entries and the lost count; the answer is how many there were of each.
     pub fn clear(&mut self) -> (u8, u16)
-        ensures answer { (u : ℕ) → reply.Emptied result.0 result.1 ≡ answer_to self.old u request.Clear }
+        ensures answer { (u : ℕ) → Ok (reply.Emptied result.0 result.1) ≡ answer_to self.old u request.Clear }
         ensures after { (u : ℕ) → state_of self.new ≡ state_after self.old u request.Clear }
         ensures tasks { tasks_in self.new ≡ tasks_in self.old }
     {

@@ -1,7 +1,6 @@
-use Rattle.std.proofs.Common.{cond, get_or, vec_items, ap, ◌∙◌, arith}
+use Rattle.std.proofs.Common.{cond, get_or, vec_items, Err, ap, ◌∙◌, arith}
 use Rattle.model.specs.declared.call.Call.TheVariants.{Tick as tick}
 use Rattle.model.specs.declared.refusal.Refusal.TheVariants.{NotCleared}
-use Rattle.model.specs.declared.reply.Reply.TheVariants.{Refused}
 use Rattle.model.specs.Machine.{after, reply}
 use Rattle.executive.specs.States.{clears, engine_of, sealed_module, state_in, told_verdict}
 use Rattle.flight.proofs.Heard.{heard_all, heard_more}
@@ -25,7 +24,7 @@ loop-call-preserved g c =
       omega (arith, c.loop-call.invariant.1, pushed.len, pushed.capacity),
       heard_more (clears (told_verdict s)) (engine_of means rule s) (sealed_module s) st cs i (vec_items c.loop-call.entries) _ c.loop-call.invariant.2
           (state_in c.ask-answer.new.running) c.ask-answer.result (vec_items c.push_reserved.new.self) c.loop-call-test.true
-          (c.ask-answer.ensures.answer ∙ ap (λ z. cond (clears (told_verdict z)) (reply (engine_of means rule z) (sealed_module z) st x) (Refused NotCleared)) same)
+          (c.ask-answer.ensures.answer ∙ ap (λ z. cond (clears (told_verdict z)) (reply (engine_of means rule z) (sealed_module z) st x) (Err NotCleared)) same)
           (c.ask-answer.ensures.state ∙ ap (λ z. cond (clears (told_verdict z)) (after (engine_of means rule z) (sealed_module z) st x) st) same)
           pushed.items,
     )

@@ -1,4 +1,4 @@
-use Rattle.std.proofs.Common.{List, refl, ap, ◌∙◌}
+use Rattle.std.proofs.Common.{List, Ok, refl, ap, ◌∙◌}
 use Rattle.model.specs.declared.refusal.Fault.{Fault}
 use Rattle.model.specs.declared.reply.Reply.TheVariants.{Emptied}
 use Rattle.model.specs.Machine.{PartitionState, refusal, told, answered, asked, obeyed}
@@ -10,7 +10,7 @@ unfolding refusal told answered asked obeyed
 returns c =
     let t = c.args.self.now in
     record {
-      answer = λ _. ap (λ n. Emptied n t.lost) (c.len-count.ensures ∙ t.faults.ok.0);
+      answer = λ _. ap (λ n. Ok (Emptied n t.lost)) (c.len-count.ensures ∙ t.faults.ok.0);
       after = λ _. ap {B = PartitionState} (λ (fs : List Fault). record { tasks = (state_of t).tasks; faults = fs; lost = 0 }) c.clear.ensures.items;
       tasks = refl;
     }

@@ -1,4 +1,4 @@
-use Rattle.std.proofs.Common.{◌≡◌, ◌+◌, vec_items, refl, ap, ◌∙◌, ap₂, arith}
+use Rattle.std.proofs.Common.{◌≡◌, ◌+◌, vec_items, Ok, refl, ap, ◌∙◌, ap₂, arith}
 use Rattle.std.proofs.lemmas.List.{get_or_read_under}
 use Rattle.model.specs.declared.call.Request.TheVariants.{Release}
 use Rattle.model.specs.declared.refusal.Refusal.TheVariants.{NoSuchTask}
@@ -28,7 +28,7 @@ returns-in-Ok c =
     let e = ap₂ (λ u (x : Task). event.Release u x.period) c.now-now.ensures k in
     let w = release_free (tasks_in t) c.args.clock.tick (state_of t) i (omega (arith, v.ok.0)) _ e c.in-Ok.field-0 c.in-Ok.ensures.answer in
     record {
-      answer = ap₂ (λ u d. Due (u + d)) c.now-now.ensures (c.from.ensures ∙ ap (λ (x : Task). x.deadline) k) ∙ w.0;
+      answer = ap₂ (λ u d. Ok (Due (u + d))) c.now-now.ensures (c.from.ensures ∙ ap (λ (x : Task). x.deadline) k) ∙ w.0;
       after = c.apply.ensures.after ∙ w.1;
       tasks = c.apply.ensures.tasks;
     }
