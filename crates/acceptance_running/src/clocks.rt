@@ -12,10 +12,10 @@ fn starts_at_or_past_the_last_tick(rt: HostRuntime) -> Result<(), Fail> {
         18_446_744_073_709_551_615,
     ] {
         let mut running = running(rt.alloc(), start)?;
-        assert!(rt; running.tick() == Err(Refusal::LastTick));
-        assert!(rt; running.release(1, 0) == Ok(1_000_000_000_010));
-        assert!(rt; running.tick() == Err(Refusal::LastTick));
-        assert!(rt; running.end(1, 0) == Ok(0));
+        assert_eq!(rt; running.tick(), Err(Refusal::LastTick));
+        assert_eq!(rt; running.release(1, 0), Ok(1_000_000_000_010));
+        assert_eq!(rt; running.tick(), Err(Refusal::LastTick));
+        assert_eq!(rt; running.end(1, 0), Ok(0));
     }
     Ok(())
 }
@@ -23,9 +23,9 @@ fn starts_at_or_past_the_last_tick(rt: HostRuntime) -> Result<(), Fail> {
 #[test]
 fn one_tick_is_left(rt: HostRuntime) -> Result<(), Fail> {
     let mut running = running(rt.alloc(), 999_999_999_999)?;
-    assert!(rt; running.tick() == Ok(Turn::Spare));
-    assert!(rt; running.tick() == Err(Refusal::LastTick));
-    assert!(rt; running.release(0, 0) == Ok(1_000_000_000_010));
+    assert_eq!(rt; running.tick(), Ok(Turn::Spare));
+    assert_eq!(rt; running.tick(), Err(Refusal::LastTick));
+    assert_eq!(rt; running.release(0, 0), Ok(1_000_000_000_010));
     Ok(())
 }
 
@@ -33,6 +33,6 @@ fn one_tick_is_left(rt: HostRuntime) -> Result<(), Fail> {
 #[test]
 fn tick_zero(rt: HostRuntime) -> Result<(), Fail> {
     let mut running = running(rt.alloc(), 0)?;
-    assert!(rt; running.tick() == Ok(Turn::Idle(0)));
+    assert_eq!(rt; running.tick(), Ok(Turn::Idle(0)));
     Ok(())
 }

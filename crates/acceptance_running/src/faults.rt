@@ -17,7 +17,7 @@ fn refusal(task: u8) -> Refusal {
 fn nine_faults(rt: HostRuntime) -> Result<(), Fail> {
     let mut running = running(rt.alloc(), 6)?;
     for task in 0..9u8 {
-        assert!(rt; running.end(0, task) == Err(refusal(task)));
+        assert_eq!(rt; running.end(0, task), Err(refusal(task)));
     }
     for task in 0..8u8 {
         let entry = Fault {
@@ -25,13 +25,13 @@ fn nine_faults(rt: HostRuntime) -> Result<(), Fail> {
             task,
             tick: 6,
         };
-        assert!(rt; running.fault(0, task) == Ok(entry));
+        assert_eq!(rt; running.fault(0, task), Ok(entry));
     }
-    assert!(rt; running.fault(0, 8) == Err(Refusal::NoSuchFault));
-    assert!(rt; running.clear(1) == Ok((0, 0)));
-    assert!(rt; running.clear(0) == Ok((8, 1)));
-    assert!(rt; running.fault(0, 0) == Err(Refusal::NoSuchFault));
-    assert!(rt; running.clear(0) == Ok((0, 0)));
+    assert_eq!(rt; running.fault(0, 8), Err(Refusal::NoSuchFault));
+    assert_eq!(rt; running.clear(1), Ok((0, 0)));
+    assert_eq!(rt; running.clear(0), Ok((8, 1)));
+    assert_eq!(rt; running.fault(0, 0), Err(Refusal::NoSuchFault));
+    assert_eq!(rt; running.clear(0), Ok((0, 0)));
     Ok(())
 }
 
@@ -40,13 +40,19 @@ fn nine_faults(rt: HostRuntime) -> Result<(), Fail> {
 fn no_such_partition(rt: HostRuntime) -> Result<(), Fail> {
     let mut running = running(rt.alloc(), 0)?;
     for partition in [2, 8, 255] {
-        assert!(rt; running.release(partition, 255) == Err(Refusal::NoSuchPartition));
-        assert!(rt; running.end(partition, 255) == Err(Refusal::NoSuchPartition));
-        assert!(rt; running.fault(partition, 255) == Err(Refusal::NoSuchPartition));
-        assert!(rt; running.clear(partition) == Err(Refusal::NoSuchPartition));
+        assert_eq!(rt;
+            running.release(partition, 255),
+            Err(Refusal::NoSuchPartition)
+        );
+        assert_eq!(rt; running.end(partition, 255), Err(Refusal::NoSuchPartition));
+        assert_eq!(rt;
+            running.fault(partition, 255),
+            Err(Refusal::NoSuchPartition)
+        );
+        assert_eq!(rt; running.clear(partition), Err(Refusal::NoSuchPartition));
     }
-    assert!(rt; running.clear(0) == Ok((0, 0)));
-    assert!(rt; running.clear(1) == Ok((0, 0)));
+    assert_eq!(rt; running.clear(0), Ok((0, 0)));
+    assert_eq!(rt; running.clear(1), Ok((0, 0)));
     Ok(())
 }
 
@@ -54,11 +60,11 @@ fn no_such_partition(rt: HostRuntime) -> Result<(), Fail> {
 fn no_such_task(rt: HostRuntime) -> Result<(), Fail> {
     let mut running = running(rt.alloc(), 0)?;
     for (partition, task) in [(0, 2), (0, 255), (1, 1), (1, 16)] {
-        assert!(rt; running.release(partition, task) == Err(Refusal::NoSuchTask));
-        assert!(rt; running.end(partition, task) == Err(Refusal::NoSuchTask));
+        assert_eq!(rt; running.release(partition, task), Err(Refusal::NoSuchTask));
+        assert_eq!(rt; running.end(partition, task), Err(Refusal::NoSuchTask));
     }
-    assert!(rt; running.clear(0) == Ok((4, 0)));
-    assert!(rt; running.clear(1) == Ok((4, 0)));
+    assert_eq!(rt; running.clear(0), Ok((4, 0)));
+    assert_eq!(rt; running.clear(1), Ok((4, 0)));
     Ok(())
 }
 
@@ -76,9 +82,9 @@ fn lost_counts(rt: HostRuntime) -> Result<(), Fail> {
     let mut running = running(rt.alloc(), 0)?;
     for (ends, entries, lost) in LOST {
         for _ in 0..ends {
-            assert!(rt; running.end(1, 0) == Err(Refusal::NoOpenJob));
+            assert_eq!(rt; running.end(1, 0), Err(Refusal::NoOpenJob));
         }
-        assert!(rt; running.clear(1) == Ok((entries, lost)));
+        assert_eq!(rt; running.clear(1), Ok((entries, lost)));
     }
     Ok(())
 }

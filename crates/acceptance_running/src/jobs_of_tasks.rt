@@ -7,17 +7,17 @@ use std::test::Fail;
 #[test]
 fn released_again_after_a_period(rt: HostRuntime) -> Result<(), Fail> {
     let mut running = running(rt.alloc(), 5)?;
-    assert!(rt; running.release(0, 0) == Ok(15));
+    assert_eq!(rt; running.release(0, 0), Ok(15));
     assert!(rt; wait(&mut running, 9));
-    assert!(rt; running.release(0, 0) == Err(Refusal::TooSoon));
+    assert_eq!(rt; running.release(0, 0), Err(Refusal::TooSoon));
     let entry = Fault {
         refusal: Refusal::TooSoon,
         task: 0,
         tick: 14,
     };
-    assert!(rt; running.fault(0, 0) == Ok(entry));
+    assert_eq!(rt; running.fault(0, 0), Ok(entry));
     assert!(rt; wait(&mut running, 1));
-    assert!(rt; running.release(0, 0) == Ok(25));
+    assert_eq!(rt; running.release(0, 0), Ok(25));
     Ok(())
 }
 
@@ -34,8 +34,8 @@ const DUE: [(u64, u8, u8, u64); 5] = [
 fn due_ticks(rt: HostRuntime) -> Result<(), Fail> {
     for (start, partition, task, due) in DUE {
         let mut running = running(rt.alloc(), start)?;
-        assert!(rt; running.release(partition, task) == Ok(due));
-        assert!(rt; running.release(partition, task) == Err(Refusal::TooSoon));
+        assert_eq!(rt; running.release(partition, task), Ok(due));
+        assert_eq!(rt; running.release(partition, task), Err(Refusal::TooSoon));
     }
     Ok(())
 }
@@ -62,10 +62,10 @@ const TURNS: [Turn; 14] = [
 fn turns(rt: HostRuntime) -> Result<(), Fail> {
     let mut running = running(rt.alloc(), 0)?;
     for (partition, task, due) in [(0, 1, 19), (0, 0, 10), (1, 0, 10)] {
-        assert!(rt; running.release(partition, task) == Ok(due));
+        assert_eq!(rt; running.release(partition, task), Ok(due));
     }
     for turn in TURNS {
-        assert!(rt; running.tick() == Ok(turn));
+        assert_eq!(rt; running.tick(), Ok(turn));
     }
     Ok(())
 }
@@ -75,11 +75,11 @@ fn turns(rt: HostRuntime) -> Result<(), Fail> {
 fn ends_count(rt: HostRuntime) -> Result<(), Fail> {
     for ticks in 0..3u16 {
         let mut running = running(rt.alloc(), 0)?;
-        assert!(rt; running.release(0, 1) == Ok(19));
+        assert_eq!(rt; running.release(0, 1), Ok(19));
         assert!(rt; wait(&mut running, u64::from(ticks)));
-        assert!(rt; running.end(0, 1) == Ok(ticks));
-        assert!(rt; running.end(0, 1) == Err(Refusal::NoOpenJob));
-        assert!(rt; running.tick() == Ok(Turn::Idle(0)));
+        assert_eq!(rt; running.end(0, 1), Ok(ticks));
+        assert_eq!(rt; running.end(0, 1), Err(Refusal::NoOpenJob));
+        assert_eq!(rt; running.tick(), Ok(Turn::Idle(0)));
     }
     Ok(())
 }
@@ -88,8 +88,8 @@ fn ends_count(rt: HostRuntime) -> Result<(), Fail> {
 #[test]
 fn spent_jobs_have_no_end(rt: HostRuntime) -> Result<(), Fail> {
     let mut running = running(rt.alloc(), 0)?;
-    assert!(rt; running.release(0, 1) == Ok(19));
+    assert_eq!(rt; running.release(0, 1), Ok(19));
     assert!(rt; wait(&mut running, 3));
-    assert!(rt; running.end(0, 1) == Err(Refusal::NoOpenJob));
+    assert_eq!(rt; running.end(0, 1), Err(Refusal::NoOpenJob));
     Ok(())
 }

@@ -45,10 +45,9 @@ pub(crate) fn started(
     heap: Global,
     tick: u64,
 ) -> Result<Running<WindowList, ByOrder<Listed>>, Fail> {
-    match sealed.start(heap, tick) {
-        Ok(running) => Ok(running),
-        Err(_) => Err(Fail::new("no memory to start")),
-    }
+    sealed
+        .start(heap, tick)
+        .map_err(|_| Fail::new("no memory to start"))
 }
 
 // Module A, started at a tick.
@@ -61,10 +60,5 @@ pub(crate) fn running(
 
 // Lets some ticks go by; whether none was refused.
 pub(crate) fn wait(running: &mut Running<WindowList, ByOrder<Listed>>, ticks: u64) -> bool {
-    for _ in 0..ticks {
-        if running.tick().is_err() {
-            return false;
-        }
-    }
-    true
+    (0..ticks).all(|_| running.tick().is_ok())
 }

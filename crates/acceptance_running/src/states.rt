@@ -15,16 +15,16 @@ const TIGHT: Verdict = Verdict::Late(LateTask {
 #[test]
 fn not_cleared(rt: HostRuntime) -> Result<(), Fail> {
     let sealed = sealed(rt.alloc(), 18)?;
-    assert!(rt; sealed.verdict() == TIGHT);
+    assert_eq!(rt; sealed.verdict(), TIGHT);
     let mut running = started(sealed, rt.alloc(), 1_000_000_000_000)?;
     for (partition, task) in [(0, 0), (0, 0), (0, 1), (1, 255), (255, 0)] {
-        assert!(rt; running.tick() == Err(Refusal::NotCleared));
-        assert!(rt; running.release(partition, task) == Err(Refusal::NotCleared));
-        assert!(rt; running.end(partition, task) == Err(Refusal::NotCleared));
-        assert!(rt; running.fault(partition, task) == Err(Refusal::NotCleared));
-        assert!(rt; running.clear(partition) == Err(Refusal::NotCleared));
+        assert_eq!(rt; running.tick(), Err(Refusal::NotCleared));
+        assert_eq!(rt; running.release(partition, task), Err(Refusal::NotCleared));
+        assert_eq!(rt; running.end(partition, task), Err(Refusal::NotCleared));
+        assert_eq!(rt; running.fault(partition, task), Err(Refusal::NotCleared));
+        assert_eq!(rt; running.clear(partition), Err(Refusal::NotCleared));
     }
-    assert!(rt; running.stop().verdict() == TIGHT);
+    assert_eq!(rt; running.stop().verdict(), TIGHT);
     Ok(())
 }
 
@@ -32,15 +32,15 @@ fn not_cleared(rt: HostRuntime) -> Result<(), Fail> {
 #[test]
 fn stopped_and_started(rt: HostRuntime) -> Result<(), Fail> {
     let mut first = running(rt.alloc(), 0)?;
-    assert!(rt; first.release(0, 0) == Ok(10));
-    assert!(rt; first.release(0, 2) == Err(Refusal::NoSuchTask));
+    assert_eq!(rt; first.release(0, 0), Ok(10));
+    assert_eq!(rt; first.release(0, 2), Err(Refusal::NoSuchTask));
     assert!(rt; wait(&mut first, 1));
     let sealed = first.stop();
-    assert!(rt; sealed.verdict() == Verdict::Cleared);
+    assert_eq!(rt; sealed.verdict(), Verdict::Cleared);
     let mut second = started(sealed, rt.alloc(), 5)?;
-    assert!(rt; second.fault(0, 0) == Err(Refusal::NoSuchFault));
-    assert!(rt; second.end(0, 0) == Err(Refusal::NoOpenJob));
-    assert!(rt; second.release(0, 0) == Ok(15));
+    assert_eq!(rt; second.fault(0, 0), Err(Refusal::NoSuchFault));
+    assert_eq!(rt; second.end(0, 0), Err(Refusal::NoOpenJob));
+    assert_eq!(rt; second.release(0, 0), Ok(15));
     Ok(())
 }
 
@@ -59,6 +59,6 @@ fn reopened(rt: HostRuntime) -> Result<(), Fail> {
         task: 1,
         start: 0,
     });
-    assert!(rt; again.verdict() == want);
+    assert_eq!(rt; again.verdict(), want);
     Ok(())
 }

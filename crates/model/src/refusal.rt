@@ -1,16 +1,17 @@
-// Why a call of a running module is refused. specs/Refusals.antt has the number of each case.
+// Why a call of a running module is refused.
 ghost use Rattle.std.specs.Prelude.{◌≡◌};
 ghost use Rattle.model.specs.Refusals.{number};
 
-#[derive(Clone, Copy, PartialEq, Eq)]
+// Each has its number in the table of refusals.
+#[derive(Clone, Copy, PartialEq, Eq, Debug)]
 pub enum Refusal {
-    NotCleared,
-    NoSuchPartition,
-    NoSuchTask,
-    TooSoon,
-    NoOpenJob,
-    NoSuchFault,
-    LastTick,
+    NotCleared = 30,
+    NoSuchPartition = 31,
+    NoSuchTask = 32,
+    TooSoon = 33,
+    NoOpenJob = 34,
+    NoSuchFault = 35,
+    LastTick = 41,
 }
 
 impl Refusal {
@@ -18,20 +19,12 @@ impl Refusal {
     pub fn number(self) -> u8
         ensures { result ≡ number self }
     {
-        match self {
-            Refusal::NotCleared => 30,
-            Refusal::NoSuchPartition => 31,
-            Refusal::NoSuchTask => 32,
-            Refusal::TooSoon => 33,
-            Refusal::NoOpenJob => 34,
-            Refusal::NoSuchFault => 35,
-            Refusal::LastTick => 41,
-        }
+        self as u8
     }
 }
 
 // A fault entry: why a task's call was refused, the task's number, and the tick.
-#[derive(Clone, Copy, PartialEq, Eq)]
+#[derive(Clone, Copy, PartialEq, Eq, Debug)]
 pub struct Fault {
     pub refusal: Refusal,
     pub task: u8,

@@ -6,7 +6,7 @@ use crate::refusal::Fault;
 use std::fmt;
 
 // How a job stands after it has run a tick.
-#[derive(Clone, Copy, PartialEq, Eq)]
+#[derive(Clone, Copy, PartialEq, Eq, Debug)]
 pub enum Progress {
     Open,
     Spent,
@@ -25,7 +25,7 @@ impl fmt::Display for Progress {
 
 // What a tick comes to. A spare tick is nobody's. An idle tick names its owner, which has no open job; else its owner's
 // task ran.
-#[derive(Clone, Copy, PartialEq, Eq)]
+#[derive(Clone, Copy, PartialEq, Eq, Debug)]
 pub enum Turn {
     Spare,
     Idle(u8),
@@ -47,7 +47,7 @@ impl fmt::Display for Turn {
 
 // A tick replies its turn, a release the tick at which the job is due, an end how many ticks the job ran, a fault call the
 // entry, and a clear how many entries there were and how many were lost.
-#[derive(Clone, Copy, PartialEq, Eq)]
+#[derive(Clone, Copy, PartialEq, Eq, Debug)]
 pub enum Reply {
     Turn(Turn),
     Due(u64),

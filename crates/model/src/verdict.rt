@@ -4,7 +4,7 @@ ghost use Rattle.model.specs.Answers.{number_of};
 ghost use Rattle.model.specs.Verdicts.{verdict_answer};
 
 // A task that is not in time, and a start at which it does not pass.
-#[derive(Clone, Copy, PartialEq, Eq)]
+#[derive(Clone, Copy, PartialEq, Eq, Debug)]
 pub struct LateTask {
     pub partition: u8,
     pub task: u8,
@@ -12,7 +12,7 @@ pub struct LateTask {
 }
 
 // `Foreign` names a place that belongs to a partition which the module lacks.
-#[derive(Clone, Copy, PartialEq, Eq)]
+#[derive(Clone, Copy, PartialEq, Eq, Debug)]
 pub enum Verdict {
     Cleared,
     Foreign(u16),

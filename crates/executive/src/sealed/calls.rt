@@ -36,10 +36,7 @@ impl<T, D> Sealed<T, D> {
     pub(crate) fn is_cleared(&self) -> bool
         ensures { result ≡ clears (told_verdict self.now) }
     {
-        match self.verdict() {
-            Verdict::Cleared => true,
-            _ => false,
-        }
+        matches!(self.verdict(), Verdict::Cleared)
     }
 
     // The draft again, with the timetable and the dispatch rule.
