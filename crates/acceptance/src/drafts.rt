@@ -28,7 +28,7 @@ fn tasks_within_limits(rt: HostRuntime) {
             Err(DraftRefusal::OutsideLimits)
         };
         assert_eq!(rt; draft.add_task(0, cost, period, deadline), want);
-        assert_eq!(rt; draft.tasks(0).len(), if within { 1 } else { 0 });
+        assert_eq!(rt; draft.tasks(0).len(), usize::from(within));
     }
 }
 

@@ -8,6 +8,8 @@ mod listings;
 #[cfg(test)]
 mod long_tapes;
 #[cfg(test)]
+mod window;
+#[cfg(test)]
 mod window_lists;
 #[cfg(test)]
 mod writing;

@@ -1,4 +1,5 @@
 // Tapes at the limits of partitions, tasks and windows, and what the reader leaves.
+use crate::window::window;
 use draft::Draft;
 use listing::listing;
 use model::Window;
@@ -22,7 +23,7 @@ const UNTOUCHED: Window = Window {
 // Partitions with so many tasks each.
 fn partitions(tape: &mut Vec<u8>, count: u8, tasks: u8) -> Result<(), AllocError> {
     for _ in 0..count {
-        tape.extend_from_slice(&[0x50])?;
+        tape.push(0x50)?;
         for _ in 0..tasks {
             tape.extend_from_slice(&TASK)?;
         }
@@ -39,8 +40,8 @@ fn frame(tape: &mut Vec<u8>, windows: u8, bad: u8) -> Result<(), AllocError> {
     tape.extend_from_slice(&[0x45])
 }
 
-fn is_listed(heap: Global, tape: &Vec<u8>, want: &str) -> Result<bool, Fail> {
-    let text = listing(heap, tape.as_slice())?;
+fn is_listed(heap: Global, tape: &[u8], want: &str) -> Result<bool, Fail> {
+    let text = listing(heap, tape)?;
     Ok(text.as_str() == want)
 }
 
@@ -64,15 +65,15 @@ fn seventeenth_task(rt: HostRuntime) -> Result<(), Fail> {
 // The first faulty window decides: the fourth, or the sixty-fifth, which is one too many whatever it is.
 #[test]
 fn sixty_fifth_window(rt: HostRuntime) -> Result<(), Fail> {
-    let mut fourth = Vec::new(rt.alloc());
-    frame(&mut fourth, 65, 3)?;
-    assert!(rt; is_listed(rt.alloc(), &fourth, "refused 53 windows 21\n")?);
-    let mut good = Vec::new(rt.alloc());
-    frame(&mut good, 65, 65)?;
-    assert!(rt; is_listed(rt.alloc(), &good, "refused 52 windows 387\n")?);
-    let mut bad = Vec::new(rt.alloc());
-    frame(&mut bad, 65, 64)?;
-    assert!(rt; is_listed(rt.alloc(), &bad, "refused 52 windows 387\n")?);
+    for (bad, want) in [
+        (3, "refused 53 windows 21\n"),
+        (65, "refused 52 windows 387\n"),
+        (64, "refused 52 windows 387\n"),
+    ] {
+        let mut tape = Vec::new(rt.alloc());
+        frame(&mut tape, 65, bad)?;
+        assert!(rt; is_listed(rt.alloc(), &tape, want)?, "window {bad} bad");
+    }
     Ok(())
 }
 
@@ -99,16 +100,9 @@ fn longest_tape(rt: HostRuntime) -> Result<(), Fail> {
     );
     assert_eq!(rt; draft.partition_count(), 8);
     assert_eq!(rt; draft.tasks(7).len(), 16);
-    assert_eq!(rt;
-        list[63],
-        Window {
-            partition: 0,
-            start: 63,
-            length: 1,
-        }
-    );
+    assert_eq!(rt; list[63], window(0, 63, 1));
     assert_eq!(rt; list[64], UNTOUCHED);
-    tape.extend_from_slice(&[0x45])?;
+    tape.push(0x45)?;
     assert!(rt; is_listed(heap, &tape, "refused 74 tape 1292\n")?);
     Ok(())
 }
@@ -127,10 +121,7 @@ fn longest_tape_written(rt: HostRuntime) -> Result<(), Fail> {
         Err(WriteRefusal::ShortBuffer)
     );
     assert_eq!(rt; write(&draft, loaded.frame, &list, &mut buffer), Ok(1292));
-    for (i, byte) in tape.iter().enumerate() {
-        assert!(rt; i < 1292);
-        assert_eq!(rt; buffer[i], *byte);
-    }
+    assert_eq!(rt; buffer.as_slice(), tape.as_slice());
     Ok(())
 }
 
@@ -139,7 +130,7 @@ fn longest_tape_written(rt: HostRuntime) -> Result<(), Fail> {
 fn refusals_leave_all(rt: HostRuntime) {
     let heap = rt.alloc();
     let mut draft = Draft::new(heap);
-    assert_eq!(rt; draft.add_partition().is_ok(), true);
+    assert!(rt; draft.add_partition().is_ok());
     let mut list = [UNTOUCHED; 64];
     assert_eq!(rt;
         read(heap, b"", &mut draft, &mut list[0..63]),
@@ -166,13 +157,6 @@ fn refusals_leave_all(rt: HostRuntime) {
         })
     );
     assert_eq!(rt; draft.partition_count(), 0);
-    assert_eq!(rt;
-        list[0],
-        Window {
-            partition: 1,
-            start: 0,
-            length: 4,
-        }
-    );
+    assert_eq!(rt; list[0], window(1, 0, 4));
     assert_eq!(rt; list[1], UNTOUCHED);
 }

@@ -1,124 +1,40 @@
 // Window lists, on both sides of each limit.
+use crate::window::window;
 use model::Window;
 use std::alloc::{AllocError, Global};
 use std::test::Fail;
 use windows::{WindowRefusal, check_list};
 
-const fn window(partition: u8, start: u16, length: u16) -> Window {
-    Window {
-        partition,
-        start,
-        length,
-    }
-}
-
-const ONE: [(u16, Window, Result<(), WindowRefusal>); 10] = [
-    (
-        10,
-        Window {
-            partition: 0,
-            start: 0,
-            length: 10,
-        },
-        Ok(()),
-    ),
-    (
-        10,
-        Window {
-            partition: 0,
-            start: 0,
-            length: 11,
-        },
-        Err(WindowRefusal::Misplaced { window: 0 }),
-    ),
-    (
-        10,
-        Window {
-            partition: 7,
-            start: 9,
-            length: 1,
-        },
-        Ok(()),
-    ),
-    (
-        10,
-        Window {
-            partition: 8,
-            start: 9,
-            length: 1,
-        },
-        Err(WindowRefusal::Misplaced { window: 0 }),
-    ),
-    (
-        10,
-        Window {
-            partition: 255,
-            start: 0,
-            length: 1,
-        },
-        Err(WindowRefusal::Misplaced { window: 0 }),
-    ),
-    (
-        10,
-        Window {
-            partition: 0,
-            start: 10,
-            length: 1,
-        },
-        Err(WindowRefusal::Misplaced { window: 0 }),
-    ),
-    (
-        10,
-        Window {
-            partition: 0,
-            start: 0,
-            length: 0,
-        },
-        Err(WindowRefusal::Misplaced { window: 0 }),
-    ),
-    (
-        1024,
-        Window {
-            partition: 0,
-            start: 1023,
-            length: 1,
-        },
-        Ok(()),
-    ),
-    (
-        1024,
-        Window {
-            partition: 0,
-            start: 65535,
-            length: 65535,
-        },
-        Err(WindowRefusal::Misplaced { window: 0 }),
-    ),
-    (
-        1025,
-        Window {
-            partition: 0,
-            start: 0,
-            length: 1,
-        },
-        Err(WindowRefusal::FrameLength),
-    ),
-];
-
 #[test]
 fn single_windows(rt: HostRuntime) {
-    for (frame, only, want) in ONE {
-        assert_eq!(rt; check_list(frame, &[only]), want);
+    let misplaced = Err(WindowRefusal::Misplaced { window: 0 });
+    for (frame, only, want) in [
+        (10, window(0, 0, 10), Ok(())),
+        (10, window(0, 0, 11), misplaced),
+        (10, window(7, 9, 1), Ok(())),
+        (10, window(8, 9, 1), misplaced),
+        (10, window(255, 0, 1), misplaced),
+        (10, window(0, 10, 1), misplaced),
+        (10, window(0, 0, 0), misplaced),
+        (1024, window(0, 1023, 1), Ok(())),
+        (1024, window(0, 65535, 65535), misplaced),
+        (1025, window(0, 0, 1), Err(WindowRefusal::FrameLength)),
+    ] {
+        assert_eq!(rt; check_list(frame, &[only]), want, "{only:?} in {frame}");
     }
 }
 
 #[test]
 fn frames(rt: HostRuntime) {
-    assert_eq!(rt; check_list(0, &[]), Err(WindowRefusal::FrameLength));
-    assert_eq!(rt; check_list(1, &[]), Ok(()));
-    assert_eq!(rt; check_list(1024, &[]), Ok(()));
-    assert_eq!(rt; check_list(1025, &[]), Err(WindowRefusal::FrameLength));
-    assert_eq!(rt; check_list(65535, &[]), Err(WindowRefusal::FrameLength));
+    for (frame, want) in [
+        (0, Err(WindowRefusal::FrameLength)),
+        (1, Ok(())),
+        (1024, Ok(())),
+        (1025, Err(WindowRefusal::FrameLength)),
+        (65535, Err(WindowRefusal::FrameLength)),
+    ] {
+        assert_eq!(rt; check_list(frame, &[]), want, "frame {frame}");
+    }
 }
 
 // A window begins where the one before it ends, or later; of two faults the earlier window's comes first.
@@ -146,37 +62,23 @@ fn neighbours(rt: HostRuntime) {
 
 // Windows of one tick, end to end; the one at `bad` has no length.
 fn end_to_end(heap: Global, count: u16, bad: u16) -> Result<Vec<Window>, AllocError> {
-    let mut list = Vec::new(heap);
-    for i in 0..count {
-        list.push(window(0, i, if i == bad { 0 } else { 1 }))?;
-    }
-    Ok(list)
+    (0..count)
+        .map(|i| window(0, i, if i == bad { 0 } else { 1 }))
+        .collect(heap)
 }
 
 // A list of more than 64 windows is refused as such, whatever its windows are.
 #[test]
 fn sixty_fifth_window(rt: HostRuntime) -> Result<(), Fail> {
-    let heap = rt.alloc();
-    let most = end_to_end(heap, 64, 64)?;
-    assert_eq!(rt; check_list(65, most.as_slice()), Ok(()));
-    let many = end_to_end(heap, 65, 65)?;
-    assert_eq!(rt;
-        check_list(65, many.as_slice()),
-        Err(WindowRefusal::TooManyWindows)
-    );
-    assert_eq!(rt;
-        check_list(0, many.as_slice()),
-        Err(WindowRefusal::FrameLength)
-    );
-    let bad = end_to_end(heap, 65, 3)?;
-    assert_eq!(rt;
-        check_list(65, bad.as_slice()),
-        Err(WindowRefusal::TooManyWindows)
-    );
-    let fourth = end_to_end(heap, 64, 3)?;
-    assert_eq!(rt;
-        check_list(65, fourth.as_slice()),
-        Err(WindowRefusal::Misplaced { window: 3 })
-    );
+    for (frame, count, bad, want) in [
+        (65, 64, 64, Ok(())),
+        (65, 65, 65, Err(WindowRefusal::TooManyWindows)),
+        (0, 65, 65, Err(WindowRefusal::FrameLength)),
+        (65, 65, 3, Err(WindowRefusal::TooManyWindows)),
+        (65, 64, 3, Err(WindowRefusal::Misplaced { window: 3 })),
+    ] {
+        let list = end_to_end(rt.alloc(), count, bad)?;
+        assert_eq!(rt; check_list(frame, list.as_slice()), want, "{count} windows, {bad} bad");
+    }
     Ok(())
 }

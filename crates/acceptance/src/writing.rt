@@ -1,4 +1,5 @@
 // Tapes as written.
+use crate::window::window;
 use draft::{Draft, DraftRefusal};
 use model::Window;
 use std::alloc::Global;
@@ -6,23 +7,14 @@ use std::test::Fail;
 use tape_writer::{WriteRefusal, write};
 use windows::WindowRefusal;
 
-const WINDOWS: [Window; 2] = [
-    Window {
-        partition: 0,
-        start: 0,
-        length: 4,
-    },
-    Window {
-        partition: 1,
-        start: 4,
-        length: 1,
-    },
-];
-
 const TAPE: [u8; 39] = [
     0x50, 0x54, 0, 2, 0, 10, 0, 10, 0x54, 0, 3, 0, 20, 0, 19, 0x50, 0x54, 0, 1, 0, 10, 0, 10, 0x46,
     0, 10, 0x57, 0, 0, 0, 0, 4, 0x57, 1, 0, 4, 0, 1, 0x45,
 ];
+
+fn windows() -> [Window; 2] {
+    [window(0, 0, 4), window(1, 4, 1)]
+}
 
 fn module_a(heap: Global) -> Result<Draft, DraftRefusal> {
     let mut draft = Draft::new(heap);
@@ -38,10 +30,9 @@ fn module_a(heap: Global) -> Result<Draft, DraftRefusal> {
 fn the_sample_tape(rt: HostRuntime) -> Result<(), Fail> {
     let draft = module_a(rt.alloc())?;
     let mut buffer = [0xeeu8; 41];
-    assert_eq!(rt; write(&draft, 10, &WINDOWS, &mut buffer), Ok(39));
-    assert_eq!(rt; &buffer[0..39] == &TAPE[0..39], true);
-    assert_eq!(rt; buffer[39], 0xee);
-    assert_eq!(rt; buffer[40], 0xee);
+    assert_eq!(rt; write(&draft, 10, &windows(), &mut buffer), Ok(39));
+    assert_eq!(rt; &buffer[..39], TAPE.as_slice());
+    assert_eq!(rt; &buffer[39..], [0xee, 0xee].as_slice());
     Ok(())
 }
 
@@ -50,11 +41,11 @@ fn the_sample_tape(rt: HostRuntime) -> Result<(), Fail> {
 fn short_buffers(rt: HostRuntime) -> Result<(), Fail> {
     let draft = module_a(rt.alloc())?;
     let mut exact = [0xeeu8; 39];
-    assert_eq!(rt; write(&draft, 10, &WINDOWS, &mut exact), Ok(39));
+    assert_eq!(rt; write(&draft, 10, &windows(), &mut exact), Ok(39));
     assert_eq!(rt; exact[38], 0x45);
     let mut short = [0xeeu8; 38];
     assert_eq!(rt;
-        write(&draft, 10, &WINDOWS, &mut short),
+        write(&draft, 10, &windows(), &mut short),
         Err(WriteRefusal::ShortBuffer)
     );
     assert_eq!(rt; short[0], 0xee);
@@ -67,15 +58,15 @@ fn windows_first(rt: HostRuntime) -> Result<(), Fail> {
     let draft = module_a(rt.alloc())?;
     let mut none = [0u8; 0];
     assert_eq!(rt;
-        write(&draft, 4, &WINDOWS, &mut none),
+        write(&draft, 4, &windows(), &mut none),
         Err(WriteRefusal::Windows(WindowRefusal::Misplaced { window: 1 }))
     );
     assert_eq!(rt;
-        write(&draft, 0, &WINDOWS, &mut none),
+        write(&draft, 0, &windows(), &mut none),
         Err(WriteRefusal::Windows(WindowRefusal::FrameLength))
     );
     assert_eq!(rt;
-        write(&draft, 5, &WINDOWS, &mut none),
+        write(&draft, 5, &windows(), &mut none),
         Err(WriteRefusal::ShortBuffer)
     );
     Ok(())
