@@ -1,26 +1,35 @@
 // The modules that are planned, partition by partition.
 use draft::{Draft, DraftRefusal};
+use model::Window;
 use std::alloc::Global;
 
-// Module A: tasks by cost, period and deadline.
-pub const A: [&[(u16, u16, u16)]; 2] = [&[(2, 10, 10), (3, 20, 19)], &[(1, 10, 10)]];
+// The tasks of a partition by cost, period and deadline.
+pub(crate) type Tasks = &'static [(u16, u16, u16)];
+
+// Module A.
+pub(crate) const A: [Tasks; 2] = [&[(2, 10, 10), (3, 20, 19)], &[(1, 10, 10)]];
 
 // Module A with deadline 18 for 19.
-pub const TIGHT: [&[(u16, u16, u16)]; 2] = [&[(2, 10, 10), (3, 20, 18)], &[(1, 10, 10)]];
+pub(crate) const TIGHT: [Tasks; 2] = [&[(2, 10, 10), (3, 20, 18)], &[(1, 10, 10)]];
 
 // Module A with partition 0's tasks exchanged.
-pub const EXCHANGED: [&[(u16, u16, u16)]; 2] = [&[(3, 20, 19), (2, 10, 10)], &[(1, 10, 10)]];
+pub(crate) const EXCHANGED: [Tasks; 2] = [&[(3, 20, 19), (2, 10, 10)], &[(1, 10, 10)]];
 
-pub(crate) fn draft_of(
-    heap: Global,
-    partitions: &[&[(u16, u16, u16)]],
-) -> Result<Draft, DraftRefusal> {
+pub(crate) fn draft_of(heap: Global, partitions: &[Tasks]) -> Result<Draft, DraftRefusal> {
     let mut draft = Draft::new(heap);
     for tasks in partitions {
         let partition = draft.add_partition()?;
-        for (cost, period, deadline) in *tasks {
-            draft.add_task(partition, *cost, *period, *deadline)?;
+        for &(cost, period, deadline) in *tasks {
+            draft.add_task(partition, cost, period, deadline)?;
         }
     }
     Ok(draft)
+}
+
+pub(crate) const fn window(partition: u8, start: u16, length: u16) -> Window {
+    Window {
+        partition,
+        start,
+        length,
+    }
 }

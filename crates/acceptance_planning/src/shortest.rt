@@ -1,9 +1,9 @@
 // Shortest windows, and what a plan and a refusal leave of the list.
-use crate::modules::{A, EXCHANGED, TIGHT, draft_of};
+use crate::modules::{A, EXCHANGED, TIGHT, Tasks, draft_of, window};
 use model::Window;
 use order::{ByDeadline, Listed};
 use planner::{PlanRefusal, shortest_windows};
-use std::alloc::{AllocError, Global};
+use std::iter;
 use std::test::Fail;
 
 const UNTOUCHED: Window = Window {
@@ -14,24 +14,17 @@ const UNTOUCHED: Window = Window {
 
 // Whether a list has the windows that are wanted as (partition, start, length), and then as many untouched ones as it has left.
 fn is_list(list: &[Window], wanted: &[(u8, u16, u16)]) -> bool {
-    for (place, window) in list.iter().enumerate() {
-        let want = match wanted.get(place) {
-            Some((partition, start, length)) => Window {
-                partition: *partition,
-                start: *start,
-                length: *length,
-            },
-            None => UNTOUCHED,
-        };
-        if *window != want {
-            return false;
-        }
-    }
-    true
+    let wanted = wanted
+        .iter()
+        .map(|(partition, start, length)| window(*partition, *start, *length))
+        .chain(iter::repeat(UNTOUCHED));
+    list.iter()
+        .zip(wanted)
+        .all(|(window, want)| *window == want)
 }
 
 // partitions, a frame, and the windows
-const PLANS: [(&[&[(u16, u16, u16)]], u16, &[(u8, u16, u16)]); 9] = [
+const PLANS: [(&[Tasks], u16, &[(u8, u16, u16)]); 9] = [
     (&A, 10, &[(0, 0, 4), (1, 4, 1)]),
     (&TIGHT, 10, &[(0, 0, 5), (1, 5, 1)]),
     (&EXCHANGED, 10, &[(0, 0, 5), (1, 5, 1)]),
@@ -69,11 +62,11 @@ fn plan_in_deadline_order(rt: HostRuntime) -> Result<(), Fail> {
 }
 
 // Two partitions that together need 5 ticks of 4, and one that needs them alone.
-const APART: [&[(u16, u16, u16)]; 2] = [&[(2, 4, 4)], &[(3, 4, 4)]];
+const APART: [Tasks; 2] = [&[(2, 4, 4)], &[(3, 4, 4)]];
 
-const TOGETHER: [&[(u16, u16, u16)]; 1] = [&[(2, 4, 4), (3, 4, 4)]];
+const TOGETHER: [Tasks; 1] = [&[(2, 4, 4), (3, 4, 4)]];
 
-const AFTER_OTHERS: [&[(u16, u16, u16)]; 4] = [
+const AFTER_OTHERS: [Tasks; 4] = [
     &[(2, 4, 4)],
     &[(3, 4, 4)],
     &[(2, 4, 4), (3, 4, 4)],
@@ -81,7 +74,7 @@ const AFTER_OTHERS: [&[(u16, u16, u16)]; 4] = [
 ];
 
 // partitions, a frame, how many places the list has, and the refusal
-const REFUSALS: [(&[&[(u16, u16, u16)]], u16, usize, PlanRefusal); 11] = [
+const REFUSALS: [(&[Tasks], u16, usize, PlanRefusal); 11] = [
     (&APART, 4, 9, PlanRefusal::ExceedsFrame),
     (&TOGETHER, 4, 9, PlanRefusal::Infeasible { partition: 0 }),
     (
@@ -100,20 +93,11 @@ const REFUSALS: [(&[&[(u16, u16, u16)]], u16, usize, PlanRefusal); 11] = [
     (&TOGETHER, 4, 8, PlanRefusal::Infeasible { partition: 0 }),
 ];
 
-// A list of so many places.
-fn untouched(heap: Global, places: usize) -> Result<Vec<Window>, AllocError> {
-    let mut list = Vec::new(heap);
-    for _ in 0..places {
-        list.push(UNTOUCHED)?;
-    }
-    Ok(list)
-}
-
 #[test]
 fn refusals(rt: HostRuntime) -> Result<(), Fail> {
     for (partitions, frame, places, refusal) in REFUSALS {
         let draft = draft_of(rt.alloc(), partitions)?;
-        let mut list = untouched(rt.alloc(), places)?;
+        let mut list = vec![in rt.alloc(); UNTOUCHED; places]?;
         let plan = shortest_windows(&draft, &Listed, frame, list.as_mut_slice());
         assert_eq!(rt; plan, Err(refusal));
         assert_eq!(rt; list.len(), places);

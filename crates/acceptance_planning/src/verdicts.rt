@@ -1,18 +1,10 @@
 // Verdicts on module A and on its neighbours.
-use crate::modules::{A, EXCHANGED, TIGHT, draft_of};
+use crate::modules::{A, EXCHANGED, TIGHT, Tasks, draft_of, window};
 use analysis::{examine, failing_start, verdict};
-use model::{LateTask, Verdict, Window};
+use model::{LateTask, Verdict};
 use order::{ByDeadline, Listed};
 use std::test::Fail;
 use timetable::WindowList;
-
-const fn window(partition: u8, start: u16, length: u16) -> Window {
-    Window {
-        partition,
-        start,
-        length,
-    }
-}
 
 // Partition 0's task 1 fails first at start 2, and at start 0.
 const FROM_TWO: Verdict = Verdict::Late(LateTask {
@@ -28,7 +20,7 @@ const FROM_ZERO: Verdict = Verdict::Late(LateTask {
 });
 
 // a module, and its verdict in listed and in deadline order on module A's windows
-const VERDICTS: [(&[&[(u16, u16, u16)]], Verdict, Verdict); 3] = [
+const VERDICTS: [(&[Tasks], Verdict, Verdict); 3] = [
     (&A, Verdict::Cleared, Verdict::Cleared),
     (&TIGHT, FROM_TWO, FROM_TWO),
     (&EXCHANGED, FROM_ZERO, Verdict::Cleared),
