@@ -1,9 +1,10 @@
 -- The calls release each task as early as allowed: at each tick the next allowed release of a task is the first multiple
 -- of its period from that tick on.
-use Rattle.std.proofs.Common.{◌≡◌, ℕ, zero, suc, ◌+◌, ◌%◌, ◌<◌, ◌≤◌, Bool, true, false, cond, ◌&&◌, ◌||◌, eqb, ltb, leb, ◌⊎◌, List, [], ◌∷◌, ◌++◌, length, get_or, None, Ok, Err, Option, sym, refl, ap, ◌∙◌, subst, subst₂, inl, inr, arith}
+use Rattle.std.proofs.Common.{◌≡◌, ℕ, zero, suc, ◌+◌, ◌%◌, ◌<◌, ◌≤◌, Bool, true, false, cond, ◌&&◌, ◌||◌, eqb, ltb, leb, ◌⊎◌, List, [], ◌∷◌, ◌++◌, length, get_or, None, Ok, Err, Option, sym, refl, ap, ◌∙◌, inl, inr, arith}
 use native.Mathlib.Nat.{zero-mod}
 use Rattle.std.proofs.lemmas.List.{append_assoc, append-nil, get_or_at, length-append, length_push}
-use Rattle.std.proofs.lemmas.Bool.{and_from, and_left, and_right, both_ways, cases_Bool, cases_eq, cases_lt, cond-false, cond-true, eq-eqb, eqb-false, eqb-true, le-leb, le-ltb, lt-leb, lt-ltb, ne_eqb, or_from, or_left, or_right}
+use Rattle.std.proofs.lemmas.Bool.{and_from, both_ways, cases_Bool, cases_eq, cond-false, cond-true, eqb-false, eqb-true, le-leb, lt-leb, lt-ltb}
+use Rattle.std.proofs.lemmas.Bool.Decides.{nat_tests}
 use Rattle.model.specs.declared.call.Call.{Call}
 use Rattle.model.specs.declared.call.Call.TheVariants.{Tick as tick, Of as call}
 use Rattle.model.specs.declared.call.Request.TheVariants.{Release as release}
@@ -28,35 +29,23 @@ abbrev passed : ℕ → ℕ → ℕ → ℕ → Bool
 passed q j p i = ltb p q || (eqb p q && ltb i j)
 
 passed_here : (q j : ℕ) → passed q j q j ≡ false
-passed_here q j = or_from _ _ (le-ltb q q (omega arith)) (and_right _ _ (le-ltb j j (omega arith)))
+passed_here q j = grind (arith, nat_tests)
 
 passed_turn : (q j : ℕ) → passed q (j + 1) q j ≡ true
-passed_turn q j = or_right _ _ (and_from _ _ (eq-eqb q q refl) (lt-ltb j (j + 1) (omega arith)))
+passed_turn q j = grind (arith, nat_tests)
 
 passed_else : (q j p i : ℕ) → (p ≡ q → i ≡ j → ⊥) → passed q (j + 1) p i ≡ passed q j p i
-passed_else q j p i other = elim (cases_eq p q) [
-  | inr d ↦ ap (λ b. ltb p q || (b && ltb i (j + 1))) (ne_eqb p q d) ∙ sym (ap (λ b. ltb p q || (b && ltb i j)) (ne_eqb p q d))
-  | inl z ↦ ap (λ b. ltb p q || (eqb p q && b)) (elim (cases_lt i j) [
-    | inl l ↦ lt-ltb i (j + 1) (omega arith) ∙ sym (lt-ltb i j l)
-    | inr l ↦ let ne : i ≡ j → ⊥ = other z in le-ltb i (j + 1) (omega arith) ∙ sym (le-ltb i j l)
-  ])
-]
+passed_else q j p i other = grind (arith, nat_tests)
 
 passed_all : (m : Module) (p i : ℕ) → HasTask m p i → passed (length m) 0 p i ≡ true
-passed_all m p i k = or_left _ _ (lt-ltb p (length m) (has_part m p i k))
+passed_all m p i k = let within : p < length m = has_part m p i k in grind (arith, nat_tests)
 
 passed_none : (p i : ℕ) → passed 0 0 p i ≡ false
-passed_none p i = or_from _ _ (le-ltb p 0 (omega arith)) (and_right _ _ (le-ltb i 0 (omega arith)))
+passed_none p i = grind (arith, nat_tests)
 
 -- a partition whose tasks have all had their turn
 passed_next : (m : Module) (q p i : ℕ) → HasTask m p i → passed q (length (tasks_of m q)) p i ≡ passed (q + 1) 0 p i
-passed_next m q p i k = elim (cases_lt p q) [
-  | inl l ↦ or_left _ _ (lt-ltb p q l) ∙ sym (or_left _ _ (lt-ltb p (q + 1) (omega arith)))
-  | inr l ↦ elim (cases_eq p q) [
-    | inl z ↦ or_right _ _ (and_from _ _ (eq-eqb p q z) (lt-ltb i _ (subst (λ r. HasTask m r i) z k))) ∙ sym (or_left _ _ (lt-ltb p (q + 1) (omega arith)))
-    | inr d ↦ or_from _ _ (le-ltb p q l) (and_left _ _ (ne_eqb p q d)) ∙ sym (or_from _ _ (le-ltb p (q + 1) (omega arith)) (and_right _ _ (le-ltb i 0 (omega arith))))
-  ]
-]
+passed_next m q p i k = grind (arith, nat_tests)
 
 -- a request for a release, by whether the task exists and whether it may be released
 release_told : (x y : Bool) (a : Reply) → x ≡ true → told (unless x NoSuchTask (unless y TooSoon None)) a ≡ cond y (Ok a) (Err TooSoon)
@@ -106,16 +95,15 @@ module _ (g : Engine) (m : Module) where
     after_it = after g m st (call q (release j))
 
     here : Due u false q j ((st.partitions q).tasks j).last
-    here = subst (λ b. Due u b q j ((st.partitions q).tasks j).last) (passed_here q j) (h.due q j l)
+    here = rw (passed_here q j) at (h.due q j l)
 
     -- the task is not due at u
     kept : (u % T ≡ 0 → ⊥) → (p i : ℕ) → HasTask m p i → Due u (passed q (j + 1) p i) p i ((st.partitions p).tasks i).last
     kept z p i k = elim (cases_eq p q) [
-      | inr d ↦ subst (λ b. Due u b p i ((st.partitions p).tasks i).last) (sym (passed_else q j p i (λ e f. d e))) (h.due p i k)
+      | inr d ↦ rw (passed_else q j p i (λ e f. d e)) (h.due p i k)
       | inl y ↦ elim (cases_eq i j) [
-        | inr d ↦ subst (λ b. Due u b p i ((st.partitions p).tasks i).last) (sym (passed_else q j p i (λ e f. d f))) (h.due p i k)
-        | inl w ↦ subst₂ (λ r n. Due u (passed q (j + 1) r n) r n ((st.partitions r).tasks n).last) (sym y) (sym w)
-            (subst (λ b. Due u b q j ((st.partitions q).tasks j).last) (sym (passed_turn q j)) (multiple_ahead T u _ here z))
+        | inr d ↦ rw (passed_else q j p i (λ e f. d f)) (h.due p i k)
+        | inl w ↦ rw (y, w, passed_turn q j) (multiple_ahead T u _ here z)
       ]
     ]
 
@@ -135,19 +123,18 @@ module _ (g : Engine) (m : Module) where
 
       fresh : Due u true q j (released st.now).last
       unfolding released ready
-      fresh = subst (λ n. FirstMultiple T (suc u) (n + T)) (sym h.now_is) (multiple_on T u (omega (arith, ok.costs q j l)) z)
+      fresh = rw h.now_is (multiple_on T u (omega (arith, ok.costs q j l)) z)
 
       own_turn : (i : ℕ) → HasTask m q i → Due u (passed q (j + 1) q i) q i ((after_it.partitions q).tasks i).last
       own_turn i k = elim (cases_eq i j) [
-        | inr d ↦ subst₂ (λ b (x : TaskState). Due u b q i x.last) (sym (passed_else q j q i (λ e f. d f))) (sym (ap (λ (w : one.State). w.tasks i) own_view ∙ put_other (st.partitions q).tasks j _ i d)) (h.due q i k)
-        | inl y ↦ subst (λ n. Due u (passed q (j + 1) q n) q n ((after_it.partitions q).tasks n).last) (sym y)
-            (subst₂ (λ b (x : TaskState). Due u b q j x.last) (sym (passed_turn q j)) (sym (ap (λ (w : one.State). w.tasks j) own_view ∙ put_same (st.partitions q).tasks j _)) fresh)
+        | inr d ↦ rw (passed_else q j q i (λ e f. d f), ap (λ (w : one.State). w.tasks i) own_view ∙ put_other (st.partitions q).tasks j _ i d) (h.due q i k)
+        | inl y ↦ rw (y, passed_turn q j, ap (λ (w : one.State). w.tasks j) own_view ∙ put_same (st.partitions q).tasks j _) fresh
       ]
 
       turn : (p i : ℕ) → HasTask m p i → Due u (passed q (j + 1) p i) p i ((after_it.partitions p).tasks i).last
       turn p i k = elim (cases_eq p q) [
-        | inr d ↦ subst₂ (λ b (x : TaskState). Due u b p i x.last) (sym (passed_else q j p i (λ e f. d e))) (sym (ap (λ (w : one.State). w.tasks i) (view_other g m p st q (release j) has_q d))) (h.due p i k)
-        | inl y ↦ subst (λ r. HasTask m r i → Due u (passed q (j + 1) r i) r i ((after_it.partitions r).tasks i).last) (sym y) (own_turn i) k
+        | inr d ↦ rw (passed_else q j p i (λ e f. d e), ap (λ (w : one.State). w.tasks i) (view_other g m p st q (release j) has_q d)) (h.due p i k)
+        | inl y ↦ rw y (own_turn i (rw y at k))
       ]
 
       released_goes : Goes g m Fine st (call q (release j) ∷ []) (Stage q (j + 1) u)
@@ -160,27 +147,27 @@ module _ (g : Engine) (m : Module) where
     task_goes : Goes g m Fine st (release_at u q j (task_in m q j)) (Stage q (j + 1) u)
     unfolding flown
     task_goes = elim (cases_Bool (eqb (u % T) 0)) [
-      | inl e ↦ subst (λ cs. Goes g m Fine st cs (Stage q (j + 1) u)) (sym (cond-true _ _ _ e)) (released_goes (eqb-true _ _ e))
-      | inr e ↦ subst (λ cs. Goes g m Fine st cs (Stage q (j + 1) u)) (sym (cond-false _ _ _ e)) (tt, record { now_is = h.now_is; due = kept (eqb-false _ _ e) })
+      | inl e ↦ rw e (released_goes (eqb-true _ _ e))
+      | inr e ↦ rw e (tt, record { now_is = h.now_is; due = kept (eqb-false _ _ e) })
     ]
 
   module _ (ok : Limits m) (u : ℕ) where
     tasks_go : (q : ℕ) (ks front : List Task) (j : ℕ) → length front ≡ j → tasks_of m q ≡ front ++ ks → (st : MachineState) → Stage q j u st →
         Goes g m Fine st (partition_releases u q j ks) (Stage q (length (tasks_of m q)) u)
     unfolding flown
-    tasks_go q [] front j e split st h = (tt, subst (λ n. Stage q n u st) (sym (ap length (split ∙ append-nil front) ∙ e)) h)
+    tasks_go q [] front j e split st h = (tt, rw (ap length (split ∙ append-nil front) ∙ e) h)
     tasks_go q (k ∷ ks) front j e split st h =
         then_goes g m Fine (Stage q (j + 1) u) (Stage q (length (tasks_of m q)) u) st (release_at u q j k) (partition_releases u q (j + 1) ks)
-        (subst (λ x. Goes g m Fine st (release_at u q j x) (Stage q (j + 1) u)) (at_front (tasks_of m q) front ks k j e split) (task_goes ok q j u st (past_front (tasks_of m q) front ks k j e split) h))
+        (rw (at_front (tasks_of m q) front ks k j e split) at (task_goes ok q j u st (past_front (tasks_of m q) front ks k j e split) h))
         (tasks_go q ks (front ++ (k ∷ [])) (j + 1) (length_push front k ∙ ap (λ n. n + 1) e) (split ∙ sym (append_assoc front (k ∷ []) ks)))
 
     next_partition : (q : ℕ) (st : MachineState) → Stage q (length (tasks_of m q)) u st → Stage (q + 1) 0 u st
-    next_partition q st h = record { now_is = h.now_is; due = λ p i k. subst (λ b. Due u b p i ((st.partitions p).tasks i).last) (passed_next m q p i k) (h.due p i k) }
+    next_partition q st h = record { now_is = h.now_is; due = λ p i k. rw (passed_next m q p i k) at (h.due p i k) }
 
     partitions_go : (rest front : Module) (q : ℕ) → length front ≡ q → m ≡ front ++ rest → (st : MachineState) → Stage q 0 u st →
         Goes g m Fine st (module_releases u q rest) (Stage (length m) 0 u)
     unfolding flown
-    partitions_go [] front q e split st h = (tt, subst (λ n. Stage n 0 u st) (sym (ap length (split ∙ append-nil front) ∙ e)) h)
+    partitions_go [] front q e split st h = (tt, rw (ap length (split ∙ append-nil front) ∙ e) h)
     partitions_go (ks ∷ rest) front q e split st h =
         let these = tasks_go q ks [] 0 refl (ap (λ (x : Module). tasks_of x q) split ∙ get_or_at front ks rest [] q e) st h in
         then_goes g m Fine (Stage (q + 1) 0 u) (Stage (length m) 0 u) st (partition_releases u q 0 ks) (module_releases u (q + 1) rest)
@@ -208,7 +195,7 @@ module _ (g : Engine) (m : Module) where
         let in_time : st.now < last_tick = omega (arith, h.now_is) in
         let now_is : st.now ≡ u = h.now_is in
         let ahead : (p i : ℕ) → HasTask m p i → FirstMultiple (task_in m p i).period (suc u) (ready (task_in m p i).period ((st.partitions p).tasks i).last) =
-        λ p i k. subst (λ b. Due u b p i ((st.partitions p).tasks i).last) (passed_all m p i k) (h.due p i k)
+        λ p i k. rw (passed_all m p i k) at (h.due p i k)
         in (
           (
             record {
@@ -220,7 +207,7 @@ module _ (g : Engine) (m : Module) where
           ),
           record {
             now_is = omega (arith, tick_now st in_time);
-            due = λ p i k. subst₂ (λ b o. Due (suc u) b p i o) (sym (passed_none p i)) (sym (tick_last st in_time p i)) (ahead p i k);
+            due = λ p i k. rw (passed_none p i, tick_last st in_time p i) (ahead p i k);
           },
         )
 
@@ -230,7 +217,7 @@ module _ (g : Engine) (m : Module) where
     tt,
     record {
       now_is = refl;
-      due = λ p i k. subst (λ c. FirstMultiple (task_in m p i).period (cond c 1 0) 0) (sym (passed_none p i)) (record { whole = zero-mod _; low = omega arith; high = omega (arith, ok.costs p i k) });
+      due = λ p i k. rw (passed_none p i) (record { whole = zero-mod _; low = omega arith; high = omega (arith, ok.costs p i k) });
     },
   )
   all_go ok (suc u) b =

@@ -1,4 +1,3 @@
-mod Left
 mod Multiples
 mod Goes
 mod Early

@@ -7,23 +7,7 @@ use draft::Draft;
 use model::{Call, Request, Task};
 use std::alloc::{AllocError, Global};
 
-// The release of a task, at a tick where one is allowed.
-fn push_release(
-    calls: &mut Vec<Call>,
-    tick: u16,
-    partition: u8,
-    number: u8,
-    task: Task,
-) -> Result<(), AllocError>
-    ensures { OnOk result (calls.new.items ≡ calls.old.items ++ release_at tick partition number task) }
-{
-    if tick.is_multiple_of(task.period) {
-        calls.push(Call::Of(partition, Request::Release(number)))?;
-    }
-    Ok(())
-}
-
-// The releases of a partition's tasks at a tick.
+// The releases of a partition's tasks at a tick, of those for which one is allowed.
 fn push_releases(
     calls: &mut Vec<Call>,
     tick: u16,
@@ -34,7 +18,9 @@ fn push_releases(
     ensures { OnOk result (calls.new.items ≡ calls.old.items ++ partition_releases tick partition 0 tasks.now) }
 {
     for (number, task) in tasks.iter().enumerate() {
-        push_release(calls, tick, partition, number as u8, *task)?;
+        if tick.is_multiple_of(task.period) {
+            calls.push(Call::Of(partition, Request::Release(number as u8)))?;
+        }
     }
     Ok(())
 }
