@@ -16,6 +16,7 @@ impl Timetable for Alternating {
         1024
     }
 
+    #[tactic(auto, unfolding(model::specs::Timetables::owner_at))]
     fn owner(&self, tick: u64) -> Option<u8> {
         Some((tick % 1024 % 8) as u8)
     }
