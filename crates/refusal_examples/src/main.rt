@@ -23,9 +23,8 @@ const TAPES: [&[u8]; 4] = [b"\x50\x54\x00", b"\x00", b"\x54", b"\x46\x00\x01\x45
 
 fn main(rt: HostRuntime) -> io::Result<()> {
     match check_list(10, &WINDOWS) {
-        Err(WindowRefusal::Overlap { window }) => {
-            let number = WindowRefusal::Overlap { window }.number();
-            println!(rt; "refused {number} window {window}")?;
+        Err(refusal @ WindowRefusal::Overlap { window }) => {
+            println!(rt; "refused {} window {window}", refusal.number())?;
         }
         Err(refusal) => println!(rt; "refused {}", refusal.number())?,
         Ok(()) => println!(rt; "allowed")?,
