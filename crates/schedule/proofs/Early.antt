@@ -3,7 +3,7 @@
 use Rattle.std.proofs.Common.{◌≡◌, ℕ, zero, suc, ◌+◌, ◌%◌, ◌<◌, ◌≤◌, Bool, true, false, cond, ◌&&◌, ◌||◌, eqb, ltb, leb, ◌⊎◌, List, [], ◌∷◌, ◌++◌, length, get_or, None, Ok, Err, Option, sym, refl, ap, ◌∙◌, inl, inr, arith}
 use native.Mathlib.Nat.{zero-mod}
 use Rattle.std.proofs.lemmas.List.{append_assoc, append-nil, get_or_at, length-append, length_push}
-use Rattle.std.proofs.lemmas.Bool.{and_from, both_ways, cases_Bool, cases_eq, cond-false, cond-true, eqb-false, eqb-true, le-leb, lt-leb, lt-ltb}
+use Rattle.std.proofs.lemmas.Bool.{and_from, cases_Bool, cases_eq, cond-false, cond-true, eqb-false, eqb-true, le-leb, lt-leb, lt-ltb}
 use Rattle.std.proofs.lemmas.Bool.Decides.{nat_tests}
 use Rattle.model.specs.declared.call.Call.{Call}
 use Rattle.model.specs.declared.call.Call.TheVariants.{Tick as tick, Of as call}
@@ -50,9 +50,8 @@ passed_next m q p i k = grind (arith, nat_tests)
 -- a request for a release, by whether the task exists and whether it may be released
 release_told : (x y : Bool) (a : Reply) → x ≡ true → told (unless x NoSuchTask (unless y TooSoon None)) a ≡ cond y (Ok a) (Err TooSoon)
 unfolding told unless
-release_told true true a h = refl
-release_told true false a h = refl
-release_told false y a h = absurd (both_ways false refl h)
+release_told x true a h = rw h
+release_told x false a h = rw h
 
 cond_last : (b : Bool) (x y : TaskState) → x.last ≡ y.last → (cond b x y).last ≡ y.last
 cond_last true x y e = e
@@ -140,7 +139,7 @@ module _ (g : Engine) (m : Module) where
       released_goes : Goes g m Fine st (call q (release j) ∷ []) (Stage q (j + 1) u)
       unfolding flown
       released_goes = (
-        (record { kind = inr (q, j, l, refl); granted = granted_now; none_left = λ e. let n : ◌≡◌ {A = ℕ} 0 1 = cc in absurd (omega arith) }, tt),
+        (record { kind = inr (q, j, l, refl); granted = granted_now; none_left = λ e p i k. cc }, tt),
         record { now_is = ap (λ (w : one.State). w.now) own_view ∙ h.now_is; due = turn },
       )
 
