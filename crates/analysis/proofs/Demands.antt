@@ -1,5 +1,5 @@
 -- Demand: as it is summed task by task, and that it grows with the ticks.
-use Rattle.std.proofs.Common.{◌≡◌, ℕ, ◌+◌, ◌-◌, ◌*◌, ◌/◌, ◌%◌, ◌<◌, ◌≤◌, min, Bool, true, false, cond, leb, List, length, get_or, refl, ap, ◌∙◌, inl, inr, mod-lt, add-mul, mul-le-mul, mul-le-mul_left, div-add-mod', le-div_iff_mul-le, le-mul_of_pos_right, div-mul-le_self, add-one, arith}
+use Rattle.std.proofs.Common.{◌≡◌, ℕ, ◌+◌, ◌-◌, ◌*◌, ◌/◌, ◌%◌, ◌<◌, ◌≤◌, min, Bool, true, false, cond, leb, List, length, get_or, refl, ap, ◌∙◌, inl, inr, mod-lt, add-mul, mul-le-mul_left, div-add-mod', le-div_iff_mul-le, div-mul-le_self, add-one, arith}
 use native.Mathlib.Nat.{div-eq_of_lt-le, div-zero}
 use Rattle.std.proofs.lemmas.Bool.{and_parts, cases_eq, leb-true}
 use Rattle.model.specs.declared.task.Task.{Task}
@@ -36,10 +36,6 @@ ceil_computed t d h =
           let g : min 1 (t % d) ≡ 1 = omega arith in
           div-eq_of_lt-le d (omega (arith, add-mul (t / d) (min 1 (t % d)) d, ap (λ x. x * d) g)) (omega (arith, add-mul (t / d + min 1 (t % d)) 1 d, add-mul (t / d) (min 1 (t % d)) d, ap (λ x. x * d) g))
     ]
-
--- the cost of a task's releases in at most 4096 ticks
-pub releases_cost : (c t d : ℕ) → c ≤ 4096 → t ≤ 4096 → 1 ≤ d → c * (t / d + min 1 (t % d)) ≤ 16777216
-releases_cost c t d l m h = let b : t / d + min 1 (t % d) ≤ 4096 = omega (arith, div-add-mod' t d, le-mul_of_pos_right (t / d) h) in mul-le-mul l b
 
 ceil_grows : (t u d : ℕ) → t ≤ u → ceil t d ≤ ceil u d
 unfolding ceil

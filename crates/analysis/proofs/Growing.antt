@@ -1,9 +1,11 @@
 -- A stretch that grows by one tick, and what it tells at the deadline.
-use Rattle.std.proofs.Common.{◌≡◌, ℕ, ◌+◌, ◌%◌, ◌<◌, ◌≤◌, Bool, true, false, cond, MatchBool, sym, refl, ap, ◌∙◌, inl, inr, arith}
+use Rattle.std.proofs.Common.{◌≡◌, ℕ, ◌+◌, ◌%◌, ◌<◌, ◌≤◌, Bool, true, false, cond, MatchBool, length, sym, refl, ap, ◌∙◌, inl, inr, arith}
 use native.Mathlib.Nat.{mod-add-mod}
 use mir.Val.{bool_byte}
 use Rattle.std.proofs.lemmas.Bool.{cases_eq}
+use Rattle.std.proofs.lemmas.List.{get_or_past}
 use Rattle.model.specs.InTime.{D, Partition, Passes, PassesIn, demand, passes, supply}
+use Rattle.model.specs.Modules.{task, task_of}
 use Rattle.model.proofs.Decisions.{decides_passes, refuted}
 use Rattle.model.proofs.Supplies.{supply_more, supply_none}
 use Rattle.analysis.specs.declared.stretch.Stretch.{Stretch}
@@ -68,5 +70,8 @@ pub passes_no : (p : Partition) (i s : ℕ) → (Passes p i s → ⊥) → passe
 passes_no p i s h = refuted (passes p i s) (λ e. h ((decides_passes p i s).0 e))
 
 -- a task that is not there has the deadline 0
-pub absent_never : (p : Partition) (i s : ℕ) → D p i ≡ 0 → passes p i s ≡ false
-absent_never p i s e = passes_no p i s (λ v. omega (arith, v.1, v.2))
+pub absent_never : (p : Partition) (i s : ℕ) → length p.tasks ≤ i → passes p i s ≡ false
+unfolding task_of
+absent_never p i s l =
+    let e : D p i ≡ 0 = ap (λ k. k.deadline) (get_or_past p.tasks i (task 0 0 0) l) in
+    passes_no p i s (λ v. omega (arith, v.1, v.2))

@@ -35,25 +35,29 @@ module _ (goes : ℕ → ℕ → Bool) (test : ℕ → Bool) where
   pub such_found : (n : ℕ) → test n ≡ true → first_such goes test (n + 1) ≡ Some (first_of goes n (first_such goes test n))
   such_found n e = such_next n ∙ cond-true (test n) _ _ e
 
+-- What is found on a partition, once the first failing task and its first failing start are known.
+module _ (p : Partition) (f n : ℕ) where
+  pub nothing_found : first_late p f ≡ None → None ≡ late_task p f n (first_late p f)
+  unfolding late_task
+  nothing_found z = sym (ap (late_task p f n) z)
+
+  pub never_fails : (i : ℕ) → first_late p f ≡ Some i → failing_start p f i ≡ None → None ≡ late_task p f n (first_late p f)
+  unfolding late_task late_at
+  never_fails i z w = sym (ap (late_task p f n) z ∙ ap (late_at n i) w)
+
+  pub task_found : (i s : ℕ) → first_late p f ≡ Some i → failing_start p f i ≡ Some s → Some (record { partition = n; task = i; start = s }) ≡ late_task p f n (first_late p f)
+  unfolding late_task late_at
+  task_found i s z w = sym (ap (late_task p f n) z ∙ ap (late_at n i) w)
+
 -- A partition by its tasks and places.
 module _ (t : Timetable) (order : Order) (m : Module) (n : ℕ) where
-  pub same_partition : (ks : List Task) (places : Places) → ks ≡ tasks_of m n → ((u : ℕ) → ticks_of places u ≡ owned_by n (owner_at t u)) →
-      partition_of order n ks (ticks_of places) ≡ partition t order m n
-  same_partition ks places e h = ap (λ x. partition_of order n x (ticks_of places)) e ∙ ap (partition_of order n (tasks_of m n)) (fun_ext h)
+  pub same_partition : (p : Partition) (places : Places) → p ≡ partition_of order n (tasks_of m n) (ticks_of places) →
+      ((u : ℕ) → ticks_of places u ≡ owned_by n (owner_at t u)) → p ≡ partition t order m n
+  same_partition p places e h = e ∙ ap (partition_of order n (tasks_of m n)) (fun_ext h)
 
-  finding_by : (p : Partition) (f : ℕ) → p ≡ partition t order m n → f ≡ t.frame → late_task p f n (first_late p f) ≡ finding t order m n
+  pub finding_by : (p : Partition) (f : ℕ) → p ≡ partition t order m n → f ≡ t.frame → late_task p f n (first_late p f) ≡ finding t order m n
   unfolding finding
   finding_by p f e h = ap₂ (λ q g. late_task q g n (first_late q g)) e h
-
-  -- the finding, once the first failing task and its first failing start are known
-  module _ (p : Partition) (f : ℕ) (e : p ≡ partition t order m n) (h : f ≡ t.frame) where
-    pub nothing_found : first_late p f ≡ None → finding t order m n ≡ None
-    unfolding late_task
-    nothing_found z = sym (finding_by p f e h) ∙ ap (late_task p f n) z
-
-    pub task_found : (i : ℕ) (o : Option ℕ) → first_late p f ≡ Some i → failing_start p f i ≡ o → finding t order m n ≡ late_at n i o
-    unfolding late_task
-    task_found i o z w = sym (finding_by p f e h) ∙ ap (late_task p f n) z ∙ ap (late_at n i) w
 
 -- A search goes by what is found below its bound.
 found_same : {A : Type 0} (f g : ℕ → Option A) (n : ℕ) → ((k : ℕ) → k < n → f k ≡ g k) → first_found f n ≡ first_found g n

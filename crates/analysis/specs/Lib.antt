@@ -1,5 +1,6 @@
 pub mod Places
 pub mod Owners
+pub mod Partitions
 pub mod Stretches
 pub mod Responses
 pub mod Findings

@@ -1,6 +1,13 @@
 -- How a task responds: within how many ticks it passes, or where it does not.
-use Rattle.std.specs.Prelude.{◌≡◌, ℕ, ◌-◌, ◌<◌, ◌≤◌, Bool, true, not, ◌&&◌, ◌||◌, ◌==◌}
+use Rattle.std.specs.Prelude.{◌≡◌, ℕ, ◌-◌, ◌<◌, ◌≤◌, Bool, true, false, not, ◌&&◌, ◌||◌, ◌==◌}
 use Rattle.model.specs.InTime.{Partition, D, Passes, PassesIn}
+use Rattle.analysis.specs.declared.response.Wanted.{Wanted}
+use Rattle.analysis.specs.declared.response.Wanted.TheVariants.{Any, First}
+
+-- whether the first start that fails is wanted, and not any
+abbrev pub wants_first : Wanted → Bool
+wants_first Any = false
+wants_first First = true
 
 -- whether the start s is tried: 0, and each that begins a gap; when the first start that fails is wanted, each after an owned tick
 abbrev pub tried : (ℕ → Bool) → Bool → ℕ → Bool

@@ -1,16 +1,18 @@
 // What is found on a module: the first foreign place, and on each partition the first task that is not in time. Both are
 // found whatever the verdict, which is told from them.
 ghost use Rattle.std.specs.Prelude.{◌≡◌, not};
-ghost use Rattle.model.specs.Verdicts.{owner_known, foreign_place};
+ghost use Rattle.model.specs.Verdicts.{owner_known, foreign_place, finding as finding_on};
 ghost use Rattle.draft.specs.Drafts.{module_of};
 ghost use Rattle.analysis.specs.Findings.{findings_on, found_on, told_by};
 ghost use Rattle.analysis.specs.Owners.{drawn};
 
-use crate::finding::finding;
 use crate::owners::Owners;
+use crate::partition::Partition;
+use crate::places::Places;
 use draft::Draft;
 use model::{LateTask, Verdict};
 use order::LocalOrder;
+use std::array;
 use timetable::Timetable;
 
 #[derive(Clone, Copy)]
@@ -38,10 +40,9 @@ impl Findings {
         if let Some(place) = self.foreign {
             return Verdict::Foreign(place);
         }
-        for partition in 0..8usize {
-            let found = self.partitions[partition];
+        for found in &self.partitions {
             if let Some(task) = found {
-                return Verdict::Late(task);
+                return Verdict::Late(*task);
             }
         }
         Verdict::Cleared
@@ -52,22 +53,27 @@ impl Findings {
 fn lacks(draft: &Draft, owner: Option<u8>) -> bool
     ensures { result ≡ not (owner_known (module_of draft.now) owner) }
 {
-    match owner {
-        Some(partition) => partition >= draft.partition_count(),
-        None => false,
-    }
+    owner.is_some_and(|partition| partition >= draft.partition_count())
 }
 
 // The first place that belongs to a partition which the module lacks.
 fn foreign_place(draft: &Draft, owners: &Owners) -> Option<u16>
     ensures { result ≡ foreign_place (drawn owners.now) (module_of draft.now) }
 {
-    for place in 0..owners.frame() {
-        if lacks(draft, owners.at(place)) {
-            return Some(place);
-        }
-    }
-    None
+    (0..owners.frame).find(|place| lacks(draft, owners.at(*place)))
+}
+
+// The finding on a partition.
+fn finding<O: LocalOrder>(
+    draft: &Draft,
+    owners: &Owners,
+    order: &O,
+    partition: u8,
+) -> Option<LateTask>
+    ensures { result ≡ finding_on (drawn owners.now) (O.LocalOrder.order order.now) (module_of draft.now) partition }
+{
+    let places = Places::of(partition, owners);
+    Partition::of(draft, order, partition, &places).finding()
 }
 
 // All that is found on the module.
@@ -75,12 +81,8 @@ pub fn examine<T: Timetable, O: LocalOrder>(draft: &Draft, table: &T, order: &O)
     ensures { result ≡ findings_on (T.Timetable.means table.now) (T.Timetable.means table.now) (O.LocalOrder.order order.now) (module_of draft.now) }
 {
     let owners = Owners::draw(table);
-    let mut partitions = [None; 8];
-    for partition in 0..8u8 {
-        partitions[usize::from(partition)] = finding(draft, &owners, order, partition);
-    }
     Findings {
         foreign: foreign_place(draft, &owners),
-        partitions,
+        partitions: array::from_fn(|partition| finding(draft, &owners, order, partition as u8)),
     }
 }

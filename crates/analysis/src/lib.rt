@@ -2,11 +2,11 @@
 // by tick, against demand; nothing allocates.
 #![tactic(auto)]
 
-mod demand;
-mod finding;
 mod findings;
 mod judging;
+mod local_task;
 mod owners;
+mod partition;
 mod passing;
 mod places;
 mod response;

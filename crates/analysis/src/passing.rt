@@ -7,9 +7,8 @@ ghost use Rattle.draft.specs.Drafts.{module_of};
 ghost use Rattle.analysis.specs.Places.{ticks_of};
 
 use crate::owners::Owners;
+use crate::partition::Partition;
 use crate::places::Places;
-use crate::response::first_failing_start;
-use crate::stretch::Stretch;
 use draft::Draft;
 use order::LocalOrder;
 use timetable::Timetable;
@@ -25,19 +24,11 @@ pub fn passes<O: LocalOrder>(
 ) -> bool
     ensures { result ≡ passes_at (partition_of (O.LocalOrder.order order.now) partition (tasks_of (module_of draft.now) partition) (ticks_of places.now)) task start }
 {
-    let tasks = draft.tasks(partition);
-    let number = usize::from(task);
-    if number >= tasks.len() {
-        return false;
+    let partition = Partition::of(draft, order, partition, places);
+    match partition.task(usize::from(task)) {
+        Some(task) => task.passes(start),
+        None => false,
     }
-    let deadline = tasks[number].deadline;
-    let mut stretch = Stretch::at(places, start);
-    while stretch.ticks < deadline {
-        if stretch.grow(tasks, order, partition, number, places, start) {
-            return true;
-        }
-    }
-    false
 }
 
 // The first start of the frame at which a task does not pass; none if it is in time. A task that is not there never passes.
@@ -50,12 +41,11 @@ pub fn failing_start<T: Timetable, O: LocalOrder>(
 ) -> Option<u16>
     ensures { result ≡ failing_start (partition_in (T.Timetable.means table.now) (O.LocalOrder.order order.now) (module_of draft.now) partition) (T.Timetable.means table.now).frame task }
 {
-    let tasks = draft.tasks(partition);
-    let number = usize::from(task);
-    if number >= tasks.len() {
-        return Some(0);
-    }
     let owners = Owners::draw(table);
     let places = Places::of(partition, &owners);
-    first_failing_start(tasks, order, partition, number, &places)
+    let partition = Partition::of(draft, order, partition, &places);
+    match partition.task(usize::from(task)) {
+        Some(task) => task.first_failing_start(),
+        None => Some(0),
+    }
 }

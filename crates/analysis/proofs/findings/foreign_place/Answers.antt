@@ -1,5 +1,8 @@
-use Rattle.std.proofs.Common.{◌≡◌, ℕ, Bool, false, not, sym, ap, ◌∙◌, arith, below_more}
+use Rattle.std.proofs.Common.{◌≡◌, ℕ, ◌<◌, ◌≤◌, Bool, true, false, not, Some, None, Option, sym, arith, rules}
+use Rattle.std.specs.Option.{MatchOption}
+use Rattle.std.proofs.lemmas.Iterator.{first_from_Range}
 use Rattle.model.specs.Modules.{Module}
+use Rattle.model.specs.Ranges.{least_below}
 use Rattle.model.specs.Verdicts.{foreign_place, owner_known}
 use Rattle.model.proofs.Ranges.{none_least, some_least}
 use Rattle.draft.specs.Drafts.{module_of}
@@ -7,27 +10,11 @@ use Rattle.analysis.specs.declared.owners.Owners.{Owners}
 use Rattle.analysis.specs.Owners.{drawn}
 use Rattle.analysis.proofs.findings.foreign_place.Goals as goal
 
-pub loop-place-init : goal.loop-place-init
-loop-place-init c = λ x l. absurd (omega arith)
-
-pub returns-then-lacks : goal.returns-then-lacks
-unfolding foreign_place
-returns-then-lacks c =
-    let o : Owners = c.args.owners.now in
-    let m : Module = module_of c.args.draft.now in
-    let foreign : ℕ → Bool = λ x. not (owner_known m ((drawn o).owner x)) in
-    sym (some_least foreign o.frame c.loop-place.place (record {
-      below = omega (arith, c.loop-place-test.true, c.frame-place-end.ensures);
-      holds = ap (λ w. not (owner_known m w)) (sym c.at.ensures) ∙ sym c.lacks.ensures ∙ c.if-lacks.true;
-      least = c.loop-place.invariant;
-    }))
-
-pub loop-place-preserved : goal.loop-place-preserved
-loop-place-preserved c =
-    let o : Owners = c.args.owners.now in
-    let m : Module = module_of c.args.draft.now in
-    let foreign : ℕ → Bool = λ x. not (owner_known m ((drawn o).owner x)) in
-    below_more (λ x. foreign x ≡ false) c.loop-place.place c.loop-place.invariant (ap (λ w. not (owner_known m w)) (sym c.at.ensures) ∙ sym c.lacks.ensures ∙ c.if-lacks.false)
+least_from : (test : ℕ → Bool) (n : ℕ) (r : Option ℕ) →
+    MatchOption r ((k : ℕ) → 0 ≤ k → k < n → test k ≡ false) (λ i. (0 ≤ i) × (i < n) × (test i ≡ true) × ((k : ℕ) → 0 ≤ k → k < i → test k ≡ false)) →
+    r ≡ least_below test n
+least_from test n None h = sym (none_least test n (λ k l. h k (omega arith) l))
+least_from test n (Some i) h = sym (some_least test n i (record { below = h.1; holds = h.2; least = λ k l. h.3 k (omega arith) l }))
 
 pub returns : goal.returns
 unfolding foreign_place
@@ -35,4 +22,4 @@ returns c =
     let o : Owners = c.args.owners.now in
     let m : Module = module_of c.args.draft.now in
     let foreign : ℕ → Bool = λ x. not (owner_known m ((drawn o).owner x)) in
-    sym (none_least foreign o.frame (λ x l. c.loop-place.invariant x (omega (arith, c.loop-place-test.false, c.frame-place-end.ensures))))
+    least_from foreign o.frame c.find.result (first_from_Range _ _ _ _ (λ x. foreign x ≡ true) (λ x. foreign x ≡ false) c.find.ensures.ran (λ x q k. search rules) (λ x q k. search rules))

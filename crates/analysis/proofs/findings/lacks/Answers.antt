@@ -1,16 +1,14 @@
-use Rattle.std.proofs.Common.{◌≡◌, not, ltb, leb, length, sym, ap, ◌∙◌, arith}
+use Rattle.std.proofs.Common.{◌≡◌, ℕ, Bool, false, not, Some, None, Option, arith}
+use Rattle.std.specs.Option.{MatchOption}
 use Rattle.std.proofs.lemmas.Bool.Decides.{nat_tests}
+use Rattle.model.specs.Modules.{Module, has_partition}
 use Rattle.model.specs.Verdicts.{owner_known}
-use Rattle.draft.specs.Drafts.{module_of}
 use Rattle.analysis.proofs.findings.lacks.Goals as goal
 
-pub returns-in-Some : goal.returns-in-Some
+by : (m : Module) (r : Bool) (o : Option ℕ) (P : ℕ → Type 0) → ((x : ℕ) → P x → r ≡ not (has_partition m x)) → MatchOption o (r ≡ false) P → r ≡ not (owner_known m o)
 unfolding owner_known
-returns-in-Some c =
-    let n = length (module_of c.args.draft.now) in
-    let e : leb n c.in-Some.partition ≡ not (ltb c.in-Some.partition n) = grind (arith, nat_tests) in
-    ap (λ x. leb x c.in-Some.partition) c.partition_count.ensures ∙ e ∙ sym (ap (λ o. not (owner_known (module_of c.args.draft.now) o)) c.in-Some.is)
+by m r None P h e = e
+by m r (Some x) P h e = h x e
 
-pub returns-in-None : goal.returns-in-None
-unfolding owner_known
-returns-in-None c = sym (ap (λ o. not (owner_known (module_of c.args.draft.now) o)) c.in-None.is)
+pub returns : goal.returns
+returns c = by _ _ _ _ (λ x k. grind (arith, nat_tests)) c.is_some_and.ensures
