@@ -1,5 +1,5 @@
 -- The plan by its cases, in the order of checking, and what a granted one leaves in the list.
-use Rattle.std.proofs.Common.{◌≡◌, ℕ, ◌<◌, ◌≤◌, Bool, true, false, cond, ◌&&◌, leb, List, [], length, take, drop, is_err, Ok, Err, sum, Result, sym, refl, ap, ◌∙◌, subst, arith}
+use Rattle.std.proofs.Common.{◌≡◌, ℕ, ◌<◌, ◌≤◌, Bool, true, false, cond, ◌&&◌, leb, List, [], length, take, drop, is_ok, Ok, Err, sum, Result, sym, refl, ap, ◌∙◌, subst}
 use Rattle.std.proofs.lemmas.List.{take_at}
 use Rattle.std.proofs.lemmas.Bool.{cond-false, cond-true, le-leb, lt-leb}
 use Rattle.model.specs.declared.window.Window.{Window}
@@ -15,28 +15,31 @@ use Rattle.windows.specs.declared.refusal.WindowRefusal.{WindowRefusal}
 use Rattle.planner.specs.Plans.{Clears, counted, list_after}
 
 -- what the check of the frame says
-pub frame_good : (f : ℕ) (r : Result (Unit {0}) WindowRefusal) → false ≡ is_err r → lists.told r ≡ frame_answer f → frame_answer f ≡ granted tt
+pub frame_good : (f : ℕ) (r : Result (Unit {0}) WindowRefusal) → is_ok r ≡ true → lists.told r ≡ frame_answer f → frame_answer f ≡ granted tt
 frame_good f (Ok x) e h = sym h
-frame_good f (Err x) e h = let z : ◌≡◌ {A = ℕ} 0 1 = cc in absurd (omega arith)
+frame_good f (Err x) e h = absurd (cc)
 
-frame_either : (b : Bool) (r : Result (Unit {0}) WindowRefusal) → true ≡ is_err r → lists.told r ≡ cond b (granted tt) (refused 51 []) → ◌≡◌ {A = Answer (Unit {0})} (cond b (granted tt) (refused 51 [])) (refused 51 [])
-frame_either false r e h = refl
-frame_either true (Ok x) e h = let z : ◌≡◌ {A = ℕ} 0 1 = cc in absurd (omega arith)
-frame_either true (Err x) e h = absurd (refuses (lists.number x) (lists.values x) tt h)
+refused_either : (b : Bool) (x : WindowRefusal) → lists.told (Err x) ≡ cond b (granted tt) (refused 51 []) → ◌≡◌ {A = Answer (Unit {0})} (cond b (granted tt) (refused 51 [])) (refused 51 [])
+refused_either false x h = refl
+refused_either true x h = absurd (refuses (lists.number x) (lists.values x) tt h)
+
+pub frame_refused : (f : ℕ) (r : Result (Unit {0}) WindowRefusal) → is_ok r ≡ false → lists.told r ≡ frame_answer f → frame_answer f ≡ refused 51 []
+frame_refused f (Ok x) e h = absurd (cc)
+frame_refused f (Err x) e h = refused_either (leb 1 f && leb f 1024) x h
 
 -- The plan, where the check of the frame has answered.
-module _ (order : Order) (m : Module) (f n : ℕ) (frame : Result (Unit {0}) WindowRefusal) (checked : lists.told frame ≡ frame_answer f) where
+module _ (order : Order) (m : Module) (f n : ℕ) where
   abbrev after_frame : Answer (List Window)
   after_frame = and_then (room_answer n) (windows_for f (least_qs order f 0 m))
 
-  pub plan_unframed : true ≡ is_err frame → plan order m f n ≡ refused 51 []
+  pub plan_unframed : frame_answer f ≡ refused 51 [] → plan order m f n ≡ refused 51 []
   unfolding plan
-  plan_unframed e = ap (λ a. and_then a after_frame) (frame_either (leb 1 f && leb f 1024) frame e checked)
+  plan_unframed e = ap (λ a. and_then a after_frame) e
 
-  module _ (good : false ≡ is_err frame) where
+  module _ (good : frame_answer f ≡ granted tt) where
     plan_framed : plan order m f n ≡ after_frame
     unfolding plan
-    plan_framed = ap (λ a. and_then a after_frame) (frame_good f frame good checked)
+    plan_framed = ap (λ a. and_then a after_frame) good
 
     pub plan_short : n < 8 → plan order m f n ≡ refused 63 []
     plan_short l = plan_framed ∙ ap (λ a. and_then a (windows_for f (least_qs order f 0 m))) (cond-false (leb 8 n) (granted tt) (refused 63 []) (lt-leb 8 n l))

@@ -1,6 +1,8 @@
 -- How many first places are enough: one start decides, more places stay enough, and where a bisection ends is the least q.
-use Rattle.std.proofs.Common.{◌≡◌, ℕ, ◌+◌, ◌%◌, ◌<◌, ◌≤◌, Bool, true, false, List, length, Some, None, sym, ap, ◌∙◌, mod-lt, arith}
+use Rattle.std.proofs.Common.{◌≡◌, ℕ, ◌+◌, ◌%◌, ◌<◌, ◌≤◌, Bool, true, false, MatchBool, List, length, get_or, Some, None, sym, ap, ◌∙◌, mod-lt, arith}
+use Rattle.std.specs.List.{AllWithin, HoldsAt, range_with_len}
 use Rattle.std.proofs.lemmas.Bool.{both_ways}
+use Rattle.std.proofs.lemmas.List.FromFn.{get_or-range_with_len, length-range_with_len}
 use Rattle.model.specs.declared.task.Task.{Task}
 use Rattle.model.specs.InTime.{D, Partition, all_in_time, passes}
 use Rattle.model.specs.Orders.{Order}
@@ -27,6 +29,19 @@ module _ (order : Order) (p : ℕ) (ks : List Task) (f : ℕ) where
         one_fails = λ i m h. sym (refuted (enough q) (λ e.
             both_ways (passes P i (q % f)) (sym h) ((decides_passes P i (q % f)).1 (suits_enough order p ks f q e i m (q % f) (mod-lt q pos)))));
       }
+
+  -- what tests of all the tasks at that start say of it
+  pub decided : (q s n : ℕ) → DecidesAt q s → n ≡ length ks → (r : Bool) →
+      MatchBool r (AllWithin (λ i. passes (with_first order p ks f q) i s ≡ true) (range_with_len 0 n) 0 (length (range_with_len 0 n)))
+      ((k : ℕ) × (k < length (range_with_len 0 n)) × HoldsAt (λ i. passes (with_first order p ks f q) i s ≡ false) (range_with_len 0 n) k) → r ≡ enough q
+  decided q s n d e true h = d.all_pass (λ i l.
+      let m : i < n = omega arith in
+      let here : get_or (range_with_len 0 n) i 0 ≡ i = omega (arith, get_or-range_with_len 0 n i 0 m) in
+      ap (λ j. passes (with_first order p ks f q) j s) (sym here) ∙ h i 0 (omega arith) (omega (arith, length-range_with_len 0 n)))
+  decided q s n d e false h =
+      let m : h.0 < n = omega (arith, h.1, length-range_with_len 0 n) in
+      let here : get_or (range_with_len 0 n) h.0 0 ≡ h.0 = omega (arith, get_or-range_with_len 0 n h.0 0 m) in
+      d.one_fails h.0 (omega arith) (sym (ap (λ j. passes (with_first order p ks f q) j s) (sym here) ∙ h.2 0))
 
   fewer_lack : (q r : ℕ) → q ≤ r → enough r ≡ false → enough q ≡ false
   fewer_lack q r l h = refuted (enough q) (λ e.

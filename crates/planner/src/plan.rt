@@ -1,50 +1,23 @@
 // The plan: each partition's least q, one window after another.
-ghost use Rattle.std.specs.Prelude.{◌≡◌, ◌≤◌, length, take, IfOk, sum, MatchResult, nat_le};
-ghost use Rattle.model.specs.Answers.{granted, refused};
-ghost use Rattle.model.specs.Planning.{least_qs, end_to_end, written, plan};
+ghost use Rattle.std.specs.Prelude.{◌≡◌, ◌≤◌, length, take, IfOk, sum, nat_le};
+ghost use Rattle.model.specs.Planning.{end_to_end, written, plan};
 ghost use Rattle.draft.specs.Drafts.{module_of};
 ghost use Rattle.planner.specs.Plans.{counted, list_after, Clears};
-ghost use Rattle.planner.specs.Refusals.{number, values, told};
+ghost use Rattle.planner.specs.Refusals.{told};
 
 use crate::PlanRefusal;
-use crate::share::least_share;
+use crate::share::FramedDraft;
 use draft::Draft;
 use model::Window;
 use order::LocalOrder;
 use windows::check_frame;
 
-// The least q of each partition, by its number; 61 for the lowest partition that has none.
-fn least_shares<O: LocalOrder>(
-    draft: &Draft,
-    order: &O,
-    frame: u16,
-) -> Result<[u16; 8], PlanRefusal>
-    requires framed { (1 ≤ frame) × (frame ≤ 1024) }
-    ensures size { IfOk result (λ qs. length qs ≡ 8) }
-    ensures answer { MatchResult result (λ qs. least_qs (O.LocalOrder.order order.now) frame 0 (module_of draft.now) ≡ granted (take (length (module_of draft.now)) qs)) (λ e. least_qs (O.LocalOrder.order order.now) frame 0 (module_of draft.now) ≡ refused (number e) (values e)) }
-{
-    let mut shares = [0; 8];
-    for partition in 0..draft.partition_count() {
-        match least_share(draft, order, partition, frame) {
-            Some(share) => shares[partition as usize] = share,
-            None => return Err(PlanRefusal::Infeasible { partition }),
-        }
-    }
-    Ok(shares)
-}
-
 // Whether the shares add to no more than the frame.
 fn fit(shares: &[u16], frame: u16) -> bool
+    requires few { length shares.now ≤ 8 }
     ensures { result ≡ nat_le (sum shares.now) frame }
 {
-    let mut left = frame;
-    for share in shares {
-        if *share > left {
-            return false;
-        }
-        left -= *share;
-    }
-    true
+    shares.iter().map(|share| u32::from(*share)).sum::<u32>() <= u32::from(frame)
 }
 
 // Writes a window of each share that is not 0, end to end from place 0, and answers how many.
@@ -84,16 +57,18 @@ pub fn shortest_windows<O: LocalOrder>(
     ensures after { windows.new ≡ list_after (plan (O.LocalOrder.order order.now) (module_of draft.now) frame (length windows.old)) windows.old }
     ensures clears { IfOk result (λ n. Clears (O.LocalOrder.order order.now) (module_of draft.now) frame (take n windows.new)) }
 {
-    if check_frame(frame).is_err() {
-        return Err(PlanRefusal::FrameLength);
-    }
+    check_frame(frame).map_err(|_| PlanRefusal::FrameLength)?;
     if windows.len() < 8 {
         return Err(PlanRefusal::ShortList);
     }
-    let shares = least_shares(draft, order, frame)?;
-    let shares = &shares[..draft.partition_count() as usize];
-    if !fit(shares, frame) {
+    let framed = FramedDraft {
+        draft,
+        order,
+        frame,
+    };
+    let shares = framed.least_shares()?;
+    if !fit(&shares, frame) {
         return Err(PlanRefusal::ExceedsFrame);
     }
-    Ok(write(shares, windows))
+    Ok(write(&shares, windows))
 }

@@ -1,6 +1,6 @@
 use Rattle.std.proofs.Common.{arith}
 use Rattle.planner.proofs.Shares.{bisects_all, lower_half, none_least, upper_half}
-use Rattle.planner.proofs.share.least_share.Goals as goal
+use Rattle.planner.proofs.share.FramedDraft.least_share.Goals as goal
 
 pub returns-then-not-is_enough : goal.returns-then-not-is_enough
 returns-then-not-is_enough g c = none_least _ _ _ _ c.if-not-is_enough.ensures
