@@ -44,8 +44,9 @@ impl<O: LocalOrder> LocalTask<'_, O> {
     pub(crate) fn passes(&self, start: u16) -> bool
         ensures { result ≡ passes_at (seen O.LocalOrder.order self.now.partition.now) self.now.number start }
     {
+        let deadline = self.deadline();
         let mut stretch = Stretch::at(self.partition.places, start);
-        for _ in 0..self.deadline() {
+        while stretch.ticks < deadline {
             if stretch.grow(self, start) {
                 return true;
             }

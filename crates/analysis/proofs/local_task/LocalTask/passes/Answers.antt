@@ -8,30 +8,30 @@ use Rattle.analysis.specs.Stretches.{TooShort}
 use Rattle.analysis.proofs.Growing.{begun_short, never_passes, passes_no, passes_wider}
 use Rattle.analysis.proofs.local_task.LocalTask.passes.Goals as goal
 
-pub loop-init : goal.loop-init
-loop-init g c =
+pub loop-stretch-init : goal.loop-stretch-init
+loop-stretch-init g c =
     let p : Partition = seen g.O.LocalOrder.order c.args.self.now.partition.now in
     let i : ℕ = c.args.self.now.number in
     let f : ℕ = c.args.self.now.partition.now.places.now.frame in
     let P : Stretch → Type 0 = λ x. TooShort p i f c.args.start x in
-    (ap (λ x. x.ticks) c.at-stretch.ensures, subst P (sym c.at-stretch.ensures) (begun_short p i f c.args.start))
+    (omega (arith, ap (λ x. x.ticks) c.at-stretch.ensures), subst P (sym c.at-stretch.ensures) (begun_short p i f c.args.start))
 
 pub grow-requires : goal.grow-requires
-grow-requires g c = record { below = omega (arith, c.loop.invariant.0, c.loop-test.true); tested = c.loop.invariant.1 }
+grow-requires g c = record { below = omega (arith, c.loop-stretch.invariant.0, c.loop-stretch-test.true); tested = c.loop-stretch.invariant.1 }
 
 pub returns-then-grow : goal.returns-then-grow
 returns-then-grow g c =
     let p : Partition = seen g.O.LocalOrder.order c.args.self.now.partition.now in
     let i : ℕ = c.args.self.now.number in
-    let l : c.grow.new.self.ticks ≤ D p i = omega (arith, c.grow.ensures.grown, c.loop.invariant.0, c.loop-test.true, c.deadline-end.ensures) in
+    let l : c.grow.new.self.ticks ≤ D p i = omega (arith, c.grow.ensures.grown, c.loop-stretch.invariant.0, c.loop-stretch-test.true, c.deadline-deadline.ensures) in
     sym ((decides_passes p i c.args.start).1 (passes_wider p i c.grow.new.self.ticks (D p i) c.args.start l (when_true _ _ c.if-grow.true c.grow.ensures.tells)))
 
-pub loop-preserved : goal.loop-preserved
-loop-preserved g c = (omega (arith, c.grow.ensures.grown, c.loop.invariant.0), when_false _ _ c.if-grow.false c.grow.ensures.tells)
+pub loop-stretch-preserved : goal.loop-stretch-preserved
+loop-stretch-preserved g c = (omega (arith, c.grow.ensures.grown, c.loop-stretch-test.true), when_false _ _ c.if-grow.false c.grow.ensures.tells)
 
 pub returns : goal.returns
 returns g c =
     let p : Partition = seen g.O.LocalOrder.order c.args.self.now.partition.now in
     let i : ℕ = c.args.self.now.number in
-    let e : c.loop.stretch.ticks ≡ D p i = omega (arith, c.loop.invariant.0, c.loop-test.false, c.deadline-end.ensures) in
-    sym (passes_no p i c.args.start (never_passes p i c.args.self.now.partition.now.places.now.frame c.args.start c.loop.stretch c.loop.invariant.1 e))
+    let e : c.loop-stretch.stretch.ticks ≡ D p i = omega (arith, c.loop-stretch.invariant.0, c.loop-stretch-test.false, c.deadline-deadline.ensures) in
+    sym (passes_no p i c.args.start (never_passes p i c.args.self.now.partition.now.places.now.frame c.args.start c.loop-stretch.stretch c.loop-stretch.invariant.1 e))
