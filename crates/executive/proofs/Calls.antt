@@ -1,35 +1,28 @@
 -- From what the tables answer and keep to the contracts of the calls.
-use Rattle.std.proofs.Common.{◌≡◌, ℕ, ◌+◌, ◌<◌, ◌≤◌, true, List, map, length, get_or, set, Some, None, Err, Result, vec_items, sym, refl, ap, ◌∙◌, inl, inr}
+use Rattle.std.proofs.Common.{◌≡◌, ℕ, ◌+◌, ◌<◌, ◌≤◌, true, false, List, map, length, get_or, set, Some, None, Ok, Err, Result, vec_items, vec_len, sym, refl, ap, ◌∙◌, inl, inr, arith}
 use Rattle.std.proofs.lemmas.List.{set-get_or}
-use Rattle.std.proofs.lemmas.Bool.{cases_lt, cond-false, cond-true, le-ltb, lt-ltb}
+use Rattle.std.proofs.lemmas.Bool.{cases_Bool, cases_lt, cond-false, cond-true, le-ltb, lt-ltb}
 use Rattle.model.specs.declared.call.Call.{Call}
 use Rattle.model.specs.declared.call.Call.TheVariants.{Of as call}
 use Rattle.model.specs.declared.call.Request.{Request}
 use Rattle.model.specs.declared.refusal.Refusal.{Refusal}
-use Rattle.model.specs.declared.refusal.Refusal.TheVariants.{NoSuchPartition}
+use Rattle.model.specs.declared.refusal.Refusal.TheVariants.{NoSuchPartition, NotCleared}
 use Rattle.model.specs.declared.reply.Reply.{Reply}
 use Rattle.model.specs.Machine.{DispatchRule, after, last_tick, reply}
 use Rattle.model.specs.Timetables.{Timetable}
 use Rattle.jobs.specs.declared.job_table.JobTable.{JobTable}
-use Rattle.jobs.specs.Tables.{answer_to, state_after, state_of, tasks_in}
+use Rattle.jobs.specs.Tables.{Answered as TableAnswered, tasks_in}
 use Rattle.jobs.specs.Ticks.{next_tick}
 use Rattle.executive.specs.declared.running.Running.{Running}
-use Rattle.executive.specs.Calls.{Answered}
-use Rattle.executive.specs.Same.{same_module}
+use Rattle.executive.specs.Calls.{Answered, admitted}
 use Rattle.executive.specs.States.{clears, engine_of, sealed_module, state_in, told_verdict}
-use Rattle.executive.proofs.Same.{equal_module, same_from}
 use Rattle.executive.proofs.Tables.{kept, lacks_answer, lacks_state, request_answer, request_state, state}
 
--- the tables have the tasks of the sealed module
-pub level_of : {T D : Type 0} (x : Running T D) → map tasks_in (vec_items x.tables) ≡ sealed_module x.sealed
-level_of x = equal_module _ _ x.level
-
--- a call of a cleared module
-pub answered : {T D : Type 0} (means : T → Timetable) (rule : D → DispatchRule) (old new : Running T D) (c : Call) (r : Result Reply Refusal) →
-    clears (told_verdict old.sealed) ≡ true → r ≡ reply (engine_of means rule old.sealed) (sealed_module old.sealed) (state_in old) c →
-    state_in new ≡ after (engine_of means rule old.sealed) (sealed_module old.sealed) (state_in old) c → new.sealed ≡ old.sealed →
-    Answered means rule old new c r
-answered means rule old new c r v a s e = record { answer = a ∙ sym (cond-true _ _ _ v); state = s ∙ sym (cond-true _ _ _ v); «sealed» = e }
+module _ {T D : Type 0} (means : T → Timetable) (rule : D → DispatchRule) (x new : Running T D) (c : Call) where
+  -- a call of a cleared module
+  pub answered : (r : Result Reply Refusal) → clears (told_verdict x.sealed) ≡ true → r ≡ reply (engine_of means rule x.sealed) (sealed_module x.sealed) (state_in x) c →
+      state_in new ≡ after (engine_of means rule x.sealed) (sealed_module x.sealed) (state_in x) c → new.sealed ≡ x.sealed → Answered means rule x new c r
+  answered r v a s e = record { answer = a ∙ sym (cond-true _ _ _ v); state = s ∙ sym (cond-true _ _ _ v); «sealed» = e }
 
 -- the clock goes on, unless it is at the last tick
 pub clock_on : (u v : ℕ) → Some v ≡ next_tick u → (u < last_tick) × (v ≡ u + 1)
@@ -44,32 +37,71 @@ clock_stops u e = elim (cases_lt u last_tick) [
   | inr l ↦ l
 ]
 
--- Requests of a cleared module x to its partition p.
-module _ {T D : Type 0} (means : T → Timetable) (rule : D → DispatchRule) (x : Running T D) (ok : clears (told_verdict x.sealed) ≡ true) (p : ℕ) (a : Request) where
+-- Requests of a module x to its partition p.
+module _ {T D : Type 0} (means : T → Timetable) (rule : D → DispatchRule) (x : Running T D) (p : ℕ) (a : Request) where
   abbrev ts : List JobTable
   ts = vec_items x.tables
 
   abbrev now : ℕ
-  now = x.clock.tick
+  now = x.clock
+
+  not_cleared : clears (told_verdict x.sealed) ≡ false → Answered means rule x x (call p a) (Err NotCleared)
+  not_cleared v = record { answer = sym (cond-false _ _ _ v); state = sym (cond-false _ _ _ v); «sealed» = refl }
 
   -- the module lacks the partition
-  pub lacks : length ts ≤ p → Answered means rule x x (call p a) (Err NoSuchPartition)
-  lacks l =
+  lacks : clears (told_verdict x.sealed) ≡ true → length ts ≤ p → Answered means rule x x (call p a) (Err NoSuchPartition)
+  lacks ok l =
       let g = engine_of means rule x.sealed in
-      answered means rule x x (call p a) _ ok (lacks_answer ts _ (level_of x) g now p a l) (lacks_state ts _ (level_of x) g now p a l) refl
+      answered means rule x x (call p a) _ ok (lacks_answer ts _ x.level g now p a l) (lacks_state ts _ x.level g now p a l) refl
 
-  -- the partition's table d answers
-  module _ (d : JobTable) (l : p < length ts) (here : d ≡ get_or ts p d) where
-    pub asks : (t : JobTable) (new : Running T D) (r : Result Reply Refusal) → r ≡ answer_to d now a → state_of t ≡ state_after d now a →
-        state_in new ≡ state now (set ts p t) → new.sealed ≡ x.sealed → Answered means rule x new (call p a) r
-    asks t new r e f s same =
-        let g = engine_of means rule x.sealed in
-        answered means rule x new (call p a) r ok (request_answer ts _ (level_of x) p d l here g now a r e) (s ∙ request_state ts _ (level_of x) p d l here g now a t f) same
+  -- a request that goes to no table
+  pub turned_away : (n : Refusal) → Err n ≡ admitted x p → Answered means rule x x (call p a) (Err n)
+  turned_away n e = elim (cases_Bool (clears (told_verdict x.sealed))) [
+    | inl v ↦ elim (cases_lt p (vec_len x.tables)) [
+      | inl l ↦ let z : Err n ≡ Ok p = e ∙ (cond-true _ _ _ v ∙ cond-true _ _ _ (lt-ltb p _ l)) in cc
+      | inr l ↦
+          let z : Err n ≡ Err NoSuchPartition = e ∙ (cond-true _ _ _ v ∙ cond-false _ _ _ (le-ltb p _ l)) in
+          let w : n ≡ NoSuchPartition = cc in
+          rw w (lacks v (omega (arith, x.tables.ok.0)))
+    ]
+    | inr v ↦
+        let z : Err n ≡ Err NotCleared = e ∙ cond-false _ _ _ v in
+        let w : n ≡ NotCleared = cc in
+        rw w (not_cleared v)
+  ]
 
-    -- and is left as it is
-    pub looks : (r : Result Reply Refusal) → r ≡ answer_to d now a → state_of d ≡ state_after d now a → Answered means rule x x (call p a) r
-    looks r e f = asks d x r e f (ap (state now) (sym (ap (set ts p) here ∙ set-get_or ts p d))) refl
+  -- a request that goes to table i
+  goes_to : (i : ℕ) → Ok i ≡ admitted x p → (clears (told_verdict x.sealed) ≡ true) × (p < length ts) × (i ≡ p)
+  goes_to i e = elim (cases_Bool (clears (told_verdict x.sealed))) [
+    | inl v ↦ elim (cases_lt p (vec_len x.tables)) [
+      | inl l ↦
+          let z : Ok i ≡ Ok p = e ∙ (cond-true _ _ _ v ∙ cond-true _ _ _ (lt-ltb p _ l)) in
+          let w : i ≡ p = cc in
+          (v, omega (arith, x.tables.ok.0), w)
+      | inr l ↦ let z : Ok i ≡ Err NoSuchPartition = e ∙ (cond-true _ _ _ v ∙ cond-false _ _ _ (le-ltb p _ l)) in cc
+    ]
+    | inr v ↦ let z : Ok i ≡ Err NotCleared = e ∙ cond-false _ _ _ v in cc
+  ]
 
-    -- its tasks are those of the sealed module
-    pub stays_level : (t : JobTable) → tasks_in t ≡ tasks_in d → same_module (map tasks_in (set ts p t)) (sealed_module x.sealed) ≡ true
-    stays_level t e = same_from _ _ (kept ts _ (level_of x) p d l here t e)
+  module _ (i : ℕ) (to : Ok i ≡ admitted x p) where
+    pub is_there : i < length ts
+    is_there = let v = goes_to i to in omega arith
+
+    -- its table d answers
+    module _ (d : JobTable) (here : d ≡ get_or ts i d) where
+      pub asks : (t : JobTable) (new : Running T D) (r : Result Reply Refusal) → TableAnswered d t now a r → state_in new ≡ state now (set ts i t) → new.sealed ≡ x.sealed →
+          Answered means rule x new (call p a) r
+      asks t new r by s same =
+          let g = engine_of means rule x.sealed in
+          let v = goes_to i to in
+          let at_p = rw v.2 at here in
+          answered means rule x new (call p a) r v.0 (request_answer ts _ x.level p d v.1 at_p g now a r by.answer)
+          (s ∙ (ap (λ j. state now (set ts j t)) v.2 ∙ request_state ts _ x.level p d v.1 at_p g now a t by.state)) same
+
+      -- and is left as it is
+      pub looks : (r : Result Reply Refusal) → TableAnswered d d now a r → Answered means rule x x (call p a) r
+      looks r by = asks d x r by (ap (state now) (sym (ap (set ts i) here ∙ set-get_or ts i d))) refl
+
+      -- its tasks are those of the sealed module
+      pub stays_level : (t : JobTable) (r : Result Reply Refusal) → TableAnswered d t now a r → map tasks_in (set ts i t) ≡ sealed_module x.sealed
+      stays_level t r by = kept ts _ x.level i d is_there here t by.tasks

@@ -1,4 +1,3 @@
-mod Same
 mod Tables
 mod Calls
 mod Runner

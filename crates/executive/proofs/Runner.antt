@@ -1,6 +1,6 @@
 -- A tick writes the state of no task but the one that ran.
-use Rattle.std.proofs.Common.{◌≡◌, ℕ, ◌<◌, ◌≤◌, Bool, false, cond, eqb, Some, None, Ok, Option, Result, sym, refl, ap, ◌∙◌, subst₂, inl, inr}
-use Rattle.std.proofs.lemmas.Bool.{and_cases, both_ways, cases_Bool, cases_eq, cases_lt, cond-false, cond-true, eq-eqb, eqb-false, le-ltb, lt-ltb, ne_eqb}
+use Rattle.std.proofs.Common.{◌≡◌, ℕ, ◌<◌, Bool, false, cond, eqb, Some, None, Ok, Option, Result, sym, refl, ap, ◌∙◌, subst₂, inl, inr}
+use Rattle.std.proofs.lemmas.Bool.{and_cases, both_ways, cases_eq, cond-false, cond-true, eq-eqb, eqb-false, lt-ltb, ne_eqb}
 use Rattle.model.specs.declared.call.Call.TheVariants.{Tick as tick}
 use Rattle.model.specs.declared.refusal.Refusal.{Refusal}
 use Rattle.model.specs.declared.reply.Reply.{Reply}
@@ -10,17 +10,7 @@ use Rattle.model.specs.Modules.{Module, tasks_of}
 use Rattle.model.specs.Promises.{executive}
 use Rattle.model.specs.FlightRecords.{is_tick, names_task, runs}
 use Rattle.model.specs.Timetables.{Timetable, owned_by, owner_at}
-use Rattle.executive.specs.declared.running.Running.{Running}
-use Rattle.executive.specs.Calls.{Answered, OnlyRunnerWritten}
-use Rattle.executive.specs.States.{clears, state_in, told_verdict}
-
--- what is the same was not written
-nothing_written : {st new : MachineState} {r : Result Reply Refusal} → new ≡ st → OnlyRunnerWritten st new r
-nothing_written e = record {
-  others = λ p i _. ap (λ x. (x.partitions p).tasks i) e;
-  faults = λ p. ap (λ x. (x.partitions p).faults) e;
-  lost = λ p. ap (λ x. (x.partitions p).lost) e;
-}
+use Rattle.executive.specs.Calls.{OnlyRunnerWritten}
 
 module _ (t : Timetable) (rule : DispatchRule) (m : Module) (st : MachineState) where
   abbrev g : Engine
@@ -67,21 +57,5 @@ module _ (t : Timetable) (rule : DispatchRule) (m : Module) (st : MachineState) 
     unfolding after ticked
     same_lost p = ap (λ (x : MachineState). (x.partitions p).lost) (cond-true _ _ _ (lt-ltb st.now last_tick l))
 
-  stopped : last_tick ≤ st.now → after g m st tick ≡ st
-  unfolding after
-  stopped l = cond-false _ _ _ (le-ltb st.now last_tick l)
-
-  tick_writes : OnlyRunnerWritten st (after g m st tick) (reply g m st tick)
-  tick_writes = elim (cases_lt st.now last_tick) [
-    | inl l ↦ record { others = left_alone l; faults = same_faults l; lost = same_lost l }
-    | inr l ↦ nothing_written (stopped l)
-  ]
-
-pub only_runner : {T D : Type 0} (means : T → Timetable) (rule : D → DispatchRule) (old new : Running T D) (r : Result Reply Refusal) → Answered means rule old new tick r → OnlyRunnerWritten (state_in old) (state_in new) r
-only_runner means rule old new r a = elim (cases_Bool (clears (told_verdict old.sealed))) [
-  | inl v ↦
-      let next = a.state ∙ cond-true _ _ _ v in
-      let told = a.answer ∙ cond-true _ _ _ v in
-      subst₂ (OnlyRunnerWritten (state_in old)) (sym next) (sym told) (tick_writes (means old.sealed.table) (rule old.sealed.dispatch) _ (state_in old))
-  | inr v ↦ nothing_written (a.state ∙ cond-false _ _ _ v)
-]
+    pub tick_writes : (new : MachineState) (r : Result Reply Refusal) → r ≡ reply g m st tick → new ≡ after g m st tick → OnlyRunnerWritten st new r
+    tick_writes new r told next = subst₂ (OnlyRunnerWritten st) (sym next) (sym told) (record { others = left_alone; faults = same_faults; lost = same_lost })

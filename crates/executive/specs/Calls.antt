@@ -1,9 +1,9 @@
 -- What the calls of a running module answer and leave.
-use Rattle.std.specs.Prelude.{◌≡◌, ℕ, false, cond, Err, Result}
+use Rattle.std.specs.Prelude.{◌≡◌, ℕ, false, cond, Ok, Err, Result, nat_lt, vec_len}
 use Rattle.model.specs.declared.call.Call.{Call}
 use Rattle.model.specs.declared.call.Call.TheVariants.{Tick}
 use Rattle.model.specs.declared.refusal.Refusal.{Refusal}
-use Rattle.model.specs.declared.refusal.Refusal.TheVariants.{NotCleared}
+use Rattle.model.specs.declared.refusal.Refusal.TheVariants.{NoSuchPartition, NotCleared}
 use Rattle.model.specs.declared.reply.Reply.{Reply}
 use Rattle.model.specs.declared.reply.Reply.TheVariants as reply
 use Rattle.model.specs.Machine.{DispatchRule, MachineState, reply as replied, after}
@@ -18,6 +18,10 @@ pub record Answered {T D : Type 0} (means : T → Timetable) (rule : D → Dispa
   pub answer : r ≡ cond (clears (told_verdict old.sealed)) (replied (engine_of means rule old.sealed) (sealed_module old.sealed) (state_in old) c) (Err NotCleared)
   pub state : state_in new ≡ cond (clears (told_verdict old.sealed)) (after (engine_of means rule old.sealed) (sealed_module old.sealed) (state_in old) c) (state_in old)
   pub «sealed» : new.sealed ≡ old.sealed
+
+-- the number of the table that a request to partition p goes to, or why the request goes to none
+abbrev pub admitted : {T D : Type 0} → Running T D → ℕ → Result ℕ Refusal
+admitted r p = cond (clears (told_verdict r.sealed)) (cond (nat_lt p (vec_len r.tables)) (Ok p) (Err NoSuchPartition)) (Err NotCleared)
 
 -- what a clear answers, as the machine's reply
 abbrev pub emptied_of : ℕ × ℕ → Reply

@@ -1,4 +1,3 @@
-pub mod Same
 pub mod States
 pub mod Calls
 pub mod Starts

@@ -33,7 +33,7 @@ module _ {T D : Type 0} where
 
   -- the machine's state
   abbrev pub state_in : Running T D → MachineState
-  state_in r = record { now = r.clock.tick; partitions = partitions_of (vec_items r.tables) }
+  state_in r = record { now = r.clock; partitions = partitions_of (vec_items r.tables) }
 
 -- the engine of a sealed module, by what timetable and dispatch rule mean: its ticks never look for late jobs
 abbrev pub engine_of : {T D : Type 0} → (T → Timetable) → (D → DispatchRule) → Sealed T D → Engine

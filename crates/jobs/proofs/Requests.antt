@@ -1,173 +1,90 @@
--- What a request comes to: the states of the tasks as a list, the faults that are noted, and the machine's answer.
-use Rattle.std.proofs.Common.{◌≡◌, ℕ, zero, suc, ◌+◌, ◌<◌, ◌≤◌, min, Bool, true, false, ltb, leb, List, [], ◌∷◌, ◌++◌, length, get_or, set, replicate, is_some, Some, None, Ok, Err, Option, Result, sym, refl, ap, ◌∙◌, ap₂, inl, inr, arith}
-use mathlib.Core.Path.{fun_ext}
-use Rattle.std.proofs.lemmas.List.{get_or-set_same, get_or-set_other}
-use Rattle.std.proofs.lemmas.Bool.{cond-true, cond-false, lt-ltb, le-ltb, cases_eq, cases_Bool, true≢false}
+-- A request by the event that it is: the machine's answer, and the state that the machine leaves.
+use Rattle.std.proofs.Common.{◌≡◌, ℕ, ◌+◌, Bool, true, false, ltb, leb, cond, List, length, is_some, Some, None, Ok, Err, Option, Result, MatchResult, vec_items, sym, refl, ap, ◌∙◌}
+use Rattle.std.specs.Result.{result_err}
+use Rattle.std.proofs.lemmas.List.{length-map}
 use Rattle.model.specs.declared.call.Request.{Request}
 use Rattle.model.specs.declared.call.Request.TheVariants as request
-use Rattle.model.specs.declared.job.Job.{Job}
-use Rattle.model.specs.declared.job.TaskState.{TaskState}
-use Rattle.model.specs.declared.refusal.Fault.{Fault}
 use Rattle.model.specs.declared.refusal.Refusal.{Refusal}
-use Rattle.model.specs.declared.refusal.Refusal.TheVariants.{NoSuchTask, TooSoon, NoOpenJob, NoSuchFault}
+use Rattle.model.specs.declared.refusal.Refusal.TheVariants.{NoSuchTask, TooSoon, NoOpenJob}
 use Rattle.model.specs.declared.reply.Reply.{Reply}
-use Rattle.model.specs.declared.reply.Reply.TheVariants.{Due, Count, Entry}
+use Rattle.model.specs.declared.reply.Reply.TheVariants.{Due, Count}
 use Rattle.model.specs.declared.task.Task.{Task}
-use Rattle.model.specs.Machine.{PartitionState, put, noted, ready, unless, refusal, ran_of, answered, released, closed, obeyed, told, asked, refused_of}
-use Rattle.model.specs.Modules.{task_of}
-use Rattle.model.proofs.Turns.{put_same, put_other}
+use Rattle.model.specs.Machine.{PartitionState, noted, ready, unless, refusal, ran_of, answered, released, closed, obeyed, told, asked, refused_of}
 use Rattle.jobs.specs.declared.event.Event.{Event}
 use Rattle.jobs.specs.declared.event.Event.TheVariants as event
-use Rattle.jobs.specs.Events.{at_rest, states_of, outcome, changed, with_state}
+use Rattle.jobs.specs.declared.job_table.JobTable.{JobTable}
+use Rattle.jobs.specs.declared.running_task.RunningTask.{RunningTask}
+use Rattle.jobs.specs.Events.{outcome_in, task_at}
+use Rattle.jobs.specs.Tables.{Answered, answer_to, reply_of, state_by, state_of, tasks_in}
+use Rattle.jobs.proofs.Events.{task_read}
 
--- tasks that were never released
-pub states_none : (n i : ℕ) → states_of (replicate n at_rest) i ≡ at_rest
-states_none zero i = refl
-states_none (suc n) zero = refl
-states_none (suc n) (suc i) = states_none n i
+-- Two tests in a row, as a result and as a refusal.
+module _ (d : ℕ) (m n : Refusal) where
+  pub same_refusal : (a b : Bool) → unless a m (unless b n None) ≡ result_err (cond a (cond b (Ok d) (Err n)) (Err m))
+  unfolding unless
+  same_refusal true true = refl
+  same_refusal true false = refl
+  same_refusal false b = refl
 
--- a state that is stored in the list
-states_set : (xs : List TaskState) (i : ℕ) (x : TaskState) → i < length xs → states_of (set xs i x) ≡ put (states_of xs) i x
-states_set xs i x l = fun_ext (λ j. elim (cases_eq j i) [
-  | inl z ↦ rw z (get_or-set_same xs i x at_rest l ∙ sym (put_same (states_of xs) i x))
-  | inr d ↦ get_or-set_other xs i j x at_rest d ∙ sym (put_other (states_of xs) i x j d)
-])
+  pub same_reply : (reply : ℕ → Reply) (a b : Bool) → reply_of reply (cond a (cond b (Ok d) (Err n)) (Err m)) ≡ told (unless a m (unless b n None)) (reply d)
+  unfolding unless told
+  same_reply reply true true = refl
+  same_reply reply true false = refl
+  same_reply reply false b = refl
 
-pub state_set : (xs ys : List TaskState) (fs : List Fault) (n i : ℕ) (x : TaskState) → i < length xs → ys ≡ set xs i x →
-    record { tasks = states_of ys; faults = fs; lost = n } ≡ with_state (record { tasks = states_of xs; faults = fs; lost = n }) i x
-state_set xs ys fs n i x l e =
-    ap {B = PartitionState} (λ (f : ℕ → TaskState). record { tasks = f; faults = fs; lost = n }) (ap states_of e ∙ states_set xs i x l)
+module _ (t : JobTable) (now i : ℕ) where
+  abbrev xs : List RunningTask
+  xs = vec_items t.tasks
 
--- a state that is stored again
-with_same : (h : PartitionState) (i : ℕ) (x : TaskState) → x ≡ h.tasks i → with_state h i x ≡ h
-with_same h i x e = ap {B = PartitionState} (λ (xs : ℕ → TaskState). record { tasks = xs; faults = h.faults; lost = h.lost }) (fun_ext (λ j. elim (cases_eq j i) [
-  | inl z ↦ rw z (put_same h.tasks i x ∙ e)
-  | inr d ↦ put_other h.tasks i x j d
-]))
+  -- what an event leaves of the table, by what it answers
+  abbrev pub Leaves : Event → JobTable → Result ℕ Refusal → Type 0
+  Leaves e new r = MatchResult r (λ _. state_of new ≡ state_by t i e) (λ n. state_of new ≡ noted (state_of t) (record { refusal = n; task = i; tick = now }))
 
-not_open : (o : Option Job) → is_some o ≡ false → o ≡ None
-not_open None e = refl
-not_open (Some b) e = absurd (true≢false e)
+  -- an event at task i that is the request a
+  module _ (a : Request) (e : Event) (reply : ℕ → Reply)
+      (refusal_is : refusal (tasks_in t) now (state_of t) a ≡ result_err (outcome_in xs i e))
+      (reply_is : reply_of reply (outcome_in xs i e) ≡ answer_to t now a)
+      (obeyed_is : asked now (state_of t) a None ≡ state_by t i e)
+      (noted_is : (n : Refusal) → asked now (state_of t) a (Some n) ≡ noted (state_of t) (record { refusal = n; task = i; tick = now })) where
+    by_event : (new : JobTable) (r : Result ℕ Refusal) → r ≡ outcome_in xs i e → Leaves e new r → tasks_in new ≡ tasks_in t → Answered t new now a (reply_of reply r)
+    by_event new (Ok k) is leaves kept = record {
+      answer = ap (reply_of reply) is ∙ reply_is;
+      state = leaves ∙ sym obeyed_is ∙ ap (asked now (state_of t) a) (ap result_err is ∙ sym refusal_is);
+      tasks = kept;
+    }
+    by_event new (Err n) is leaves kept = record {
+      answer = ap (reply_of reply) is ∙ reply_is;
+      state = leaves ∙ sym (noted_is n) ∙ ap (asked now (state_of t) a) (ap result_err is ∙ sym refusal_is);
+      tasks = kept;
+    }
 
--- a fault more: noted, lost, or past counting
-module _ (h : PartitionState) (f : Fault) where
-  pub noted_entry : (fs : List Fault) → length h.faults < 8 → fs ≡ h.faults ++ (f ∷ []) → record { tasks = h.tasks; faults = fs; lost = h.lost } ≡ noted h f
-  unfolding noted
-  noted_entry fs l e =
-      ap {B = PartitionState} (λ x. record { tasks = h.tasks; faults = x; lost = h.lost }) e
-      ∙ sym (cond-true (ltb (length h.faults) 8) _ _ (lt-ltb (length h.faults) 8 l))
+  as_many : length (tasks_in t) ≡ length xs
+  as_many = length-map xs (λ x. x.task)
 
-  pub noted_lost : (n : ℕ) → 8 ≤ length h.faults → n ≡ min (h.lost + 1) 65535 → record { tasks = h.tasks; faults = h.faults; lost = n } ≡ noted h f
-  unfolding noted
-  noted_lost n l e =
-      ap {B = PartitionState} (λ x. record { tasks = h.tasks; faults = h.faults; lost = x }) e
-      ∙ sym (cond-false (ltb (length h.faults) 8) _ _ (le-ltb (length h.faults) 8 l))
+  released_refusal : refusal (tasks_in t) now (state_of t) (request.Release i) ≡ result_err (outcome_in xs i (event.Release now))
+  unfolding refusal
+  released_refusal = rw (as_many, task_read xs i) (same_refusal _ _ _ _ _)
 
-module _ (ks : List Task) (now : ℕ) (h : PartitionState) where
-  -- the machine answers r to the request, and leaves that state
-  abbrev pub ComesTo : Request → Result Reply Refusal → PartitionState → Type 0
-  ComesTo a r after = (r ≡ told (refusal ks now h a) (answered ks now h a)) × (after ≡ asked now h a (refusal ks now h a))
+  released_reply : reply_of (λ d. Due (now + d)) (outcome_in xs i (event.Release now)) ≡ answer_to t now (request.Release i)
+  unfolding refusal answered
+  released_reply = rw (as_many, task_read xs i) (same_reply _ _ _ _ _ _)
 
-  granted : (a : Request) → refusal ks now h a ≡ None → ComesTo a (Ok (answered ks now h a)) (obeyed now h a)
-  unfolding told asked
-  granted a e = rw e (refl, refl)
+  -- a release
+  pub by_release : (new : JobTable) (r : Result ℕ Refusal) → r ≡ outcome_in xs i (event.Release now) → Leaves (event.Release now) new r → tasks_in new ≡ tasks_in t →
+      Answered t new now (request.Release i) (reply_of (λ d. Due (now + d)) r)
+  unfolding asked obeyed refused_of
+  by_release = by_event (request.Release i) (event.Release now) (λ d. Due (now + d)) released_refusal released_reply refl (λ n. refl)
 
-  -- a release or an end of task i that is refused is noted
-  abbrev pub Noted : Request → ℕ → Type 0
-  Noted a i = (n : Refusal) → asked now h a (Some n) ≡ noted h (record { refusal = n; task = i; tick = now })
+  ended_refusal : refusal (tasks_in t) now (state_of t) (request.End i) ≡ result_err (outcome_in xs i event.End)
+  unfolding refusal
+  ended_refusal = rw as_many (same_refusal _ _ _ _ _)
 
-  pub refused : (a : Request) (i u : ℕ) (n r : Refusal) (before after : PartitionState) → Noted a i → refusal ks now h a ≡ Some n →
-      r ≡ n → u ≡ now → before ≡ h → after ≡ noted before (record { refusal = n; task = i; tick = u }) → ComesTo a (Err r) after
-  unfolding told
-  refused a i u n r before after notes e re ue be ae =
-      rw e (ap Err re, ae ∙ (ap₂ (λ x v. noted x (record { refusal = n; task = i; tick = v })) be ue ∙ sym (notes n)))
+  ended_reply : reply_of Count (outcome_in xs i event.End) ≡ answer_to t now (request.End i)
+  unfolding refusal answered
+  ended_reply = rw as_many (same_reply _ _ _ _ _ _)
 
-  module _ (i : ℕ) where
-    pub release_noted : Noted (request.Release i) i
-    unfolding asked refused_of
-    release_noted n = refl
-
-    pub end_noted : Noted (request.End i) i
-    unfolding asked refused_of
-    end_noted n = refl
-
-    pub release_past : length ks ≤ i → refusal ks now h (request.Release i) ≡ Some NoSuchTask
-    unfolding refusal unless
-    release_past l = cond-false _ _ _ (le-ltb i (length ks) l)
-
-    pub end_past : length ks ≤ i → refusal ks now h (request.End i) ≡ Some NoSuchTask
-    unfolding refusal unless
-    end_past l = cond-false _ _ _ (le-ltb i (length ks) l)
-
-    -- a task that is there: what the event comes to decides
-    module _ (l : i < length ks) where
-      module _ (e : Event) (is : e ≡ event.Release now (task_of ks i).period) where
-        abbrev free : Bool
-        free = leb (ready (task_of ks i).period (h.tasks i).last) now
-
-        release_by : (b : Bool) → free ≡ b → refusal ks now h (request.Release i) ≡ unless b TooSoon None
-        unfolding refusal unless
-        release_by b f = let y = lt-ltb i (length ks) l in rw (y, f) refl
-
-        pub release_free : (k : ℕ) → Ok k ≡ outcome (h.tasks i) e → ComesTo (request.Release i) (Ok (Due (now + (task_of ks i).deadline))) (with_state h i (changed (h.tasks i) e))
-        unfolding unless answered obeyed
-        release_free k q = elim (cases_Bool free) [
-          | inl f ↦
-              let w = granted (request.Release i) (release_by true f) in
-              let x : changed (h.tasks i) e ≡ released now = rw is (cond-true _ _ _ f) in
-              (w.0, ap (with_state h i) x ∙ w.1)
-          | inr f ↦
-              let o : outcome (h.tasks i) e ≡ Err TooSoon = rw is (cond-false _ _ _ f) in
-              let z : ◌≡◌ {A = ℕ} 0 1 = cc in absurd (omega arith)
-        ]
-
-        pub release_early : (n : Refusal) → Err n ≡ outcome (h.tasks i) e → (refusal ks now h (request.Release i) ≡ Some n) × (with_state h i (changed (h.tasks i) e) ≡ h)
-        unfolding unless
-        release_early n q = elim (cases_Bool free) [
-          | inl f ↦
-              let o : outcome (h.tasks i) e ≡ Ok 0 = rw is (cond-true _ _ _ f) in
-              let z : ◌≡◌ {A = ℕ} 0 1 = cc in absurd (omega arith)
-          | inr f ↦
-              let o : outcome (h.tasks i) e ≡ Err TooSoon = rw is (cond-false _ _ _ f) in
-              let z : n ≡ TooSoon = cc in
-              (release_by false f ∙ ap Some (sym z), with_same h i _ (rw is (cond-false _ _ _ f)))
-        ]
-
-      end_by : (b : Bool) → is_some (h.tasks i).job ≡ b → refusal ks now h (request.End i) ≡ unless b NoOpenJob None
-      unfolding refusal unless
-      end_by b f = let y = lt-ltb i (length ks) l in rw (y, f) refl
-
-      pub end_open : (k : ℕ) → Ok k ≡ outcome (h.tasks i) event.End → ComesTo (request.End i) (Ok (Count k)) (with_state h i (changed (h.tasks i) event.End))
-      unfolding unless answered obeyed
-      end_open k q = elim (cases_Bool (is_some (h.tasks i).job)) [
-        | inl f ↦
-            let w = granted (request.End i) (end_by true f) in
-            let o : outcome (h.tasks i) event.End ≡ Ok (ran_of (h.tasks i).job) = cond-true _ _ _ f in
-            let z : k ≡ ran_of (h.tasks i).job = cc in
-            (ap (λ n. Ok (Count n)) z ∙ w.0, w.1)
-        | inr f ↦
-            let o : outcome (h.tasks i) event.End ≡ Err NoOpenJob = cond-false _ _ _ f in
-            let z : ◌≡◌ {A = ℕ} 0 1 = cc in absurd (omega arith)
-      ]
-
-      pub end_none : (n : Refusal) → Err n ≡ outcome (h.tasks i) event.End → (refusal ks now h (request.End i) ≡ Some n) × (with_state h i (changed (h.tasks i) event.End) ≡ h)
-      unfolding unless closed
-      end_none n q = elim (cases_Bool (is_some (h.tasks i).job)) [
-        | inl f ↦
-            let o : outcome (h.tasks i) event.End ≡ Ok (ran_of (h.tasks i).job) = cond-true _ _ _ f in
-            let z : ◌≡◌ {A = ℕ} 0 1 = cc in absurd (omega arith)
-        | inr f ↦
-            let o : outcome (h.tasks i) event.End ≡ Err NoOpenJob = cond-false _ _ _ f in
-            let z : n ≡ NoOpenJob = cc in
-            let none = not_open (h.tasks i).job f in
-            (end_by false f ∙ ap Some (sym z), with_same h i _ (λ k. record { last = (h.tasks i).last; job = sym none k }))
-      ]
-
-    -- a fault entry, which only looks
-    pub fault_past : length h.faults ≤ i → ComesTo (request.Fault i) (Err NoSuchFault) h
-    unfolding refusal unless told asked refused_of
-    fault_past l = let n = le-ltb i (length h.faults) l in rw n (refl, refl)
-
-    pub fault_there : i < length h.faults → (f : Fault) → f ≡ get_or h.faults i (record { refusal = NoSuchFault; task = 0; tick = 0 }) → ComesTo (request.Fault i) (Ok (Entry f)) h
-    unfolding refusal unless told asked answered obeyed
-    fault_there l f e = let y = lt-ltb i (length h.faults) l in rw y (ap (λ x. Ok (Entry x)) e, refl)
+  -- an end
+  pub by_end : (new : JobTable) (r : Result ℕ Refusal) → r ≡ outcome_in xs i event.End → Leaves event.End new r → tasks_in new ≡ tasks_in t →
+      Answered t new now (request.End i) (reply_of Count r)
+  unfolding asked obeyed refused_of
+  by_end = by_event (request.End i) event.End Count ended_refusal ended_reply refl (λ n. refl)

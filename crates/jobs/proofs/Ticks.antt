@@ -6,21 +6,31 @@ use Rattle.model.specs.declared.job.TaskState.{TaskState}
 use Rattle.model.specs.declared.reply.Progress.{Progress}
 use Rattle.model.specs.declared.reply.Turn.TheVariants.{Idle, Ran}
 use Rattle.model.specs.declared.task.Task.{Task}
-use Rattle.model.specs.Machine.{DispatchRule, PartitionState, chosen, runner, is_runner, worked, late, ticked, progress, turn_reply, put}
+use Rattle.model.specs.Machine.{DispatchRule, PartitionState, chosen, runner, is_runner, one_on, worked, late, ticked, progress, turn_reply, put}
+use Rattle.model.specs.Modules.{task_of}
 use Rattle.model.specs.Promises.{executive}
 use Rattle.model.specs.Timetables.{Timetable, bare_frame, owner_at, owned_by}
 use Rattle.model.proofs.Firsts.{first_below}
 use Rattle.model.proofs.Turns.{put_same, put_other}
-use Rattle.jobs.specs.Events.{run_on, with_state}
+use Rattle.jobs.specs.declared.event.Event.TheVariants.{Tick}
+use Rattle.jobs.specs.declared.running_task.RunningTask.{RunningTask}
+use Rattle.jobs.specs.Events.{changed, states_of, task_at, tasks_of_list}
+use Rattle.jobs.proofs.Events.{task_read}
 
--- x is stored for the state of task i
-module _ (h after : PartitionState) (i : ℕ) (x : TaskState) (stored : after ≡ with_state h i x) where
-  pub state_read : after.tasks i ≡ x
-  state_read = ap (λ (z : PartitionState). z.tasks i) stored ∙ put_same h.tasks i x
+-- task i of the tasks ks when its job has run one tick more
+abbrev pub run_on : List Task → (ℕ → TaskState) → ℕ → TaskState
+run_on ks xs i = record { last = (xs i).last; job = one_on (task_of ks i).cost (xs i).job }
 
-  pub others_same : (j : ℕ) → is_runner (Some i) j ≡ false → after.tasks j ≡ h.tasks j
-  unfolding is_runner put
-  others_same j e = ap (λ (z : PartitionState). z.tasks j) stored ∙ cond-false _ _ _ e
+-- the partition with x for the state of task i
+abbrev pub with_state : PartitionState → ℕ → TaskState → PartitionState
+with_state h i x = record { tasks = put h.tasks i x; faults = h.faults; lost = h.lost }
+
+pub run_is : (xs : List RunningTask) (i : ℕ) → changed (task_at xs i) Tick ≡ run_on (tasks_of_list xs) (states_of xs) i
+run_is xs i = ap (λ (k : Task). record { last = (task_at xs i).state.last; job = one_on k.cost (task_at xs i).state.job }) (sym (task_read xs i))
+
+pub others_same : (h : PartitionState) (i : ℕ) (x : TaskState) (j : ℕ) → is_runner (Some i) j ≡ false → (with_state h i x).tasks j ≡ h.tasks j
+unfolding is_runner put
+others_same h i x j e = cond-false _ _ _ e
 
 module _ (rule : DispatchRule) (p : ℕ) (ks : List Task) (h : PartitionState) where
   -- the choice does not ask for the timetable
@@ -70,6 +80,6 @@ module _ (rule : DispatchRule) (p : ℕ) (ks : List Task) (h : PartitionState) w
       | inr d ↦ cond-false _ _ _ (ne_eqb j i d) ∙ sym (put_other h.tasks i (run_on ks h.tasks i) j d)
     ])
 
-    pub ran_tick : (after : PartitionState) → after ≡ with_state h i (run_on ks h.tasks i) → (t : Timetable) (u : ℕ) → owner_at t u ≡ Some p → after ≡ ticked (executive t rule) p ks u h
+    pub ran_tick : (t : Timetable) (u : ℕ) → owner_at t u ≡ Some p → with_state h i (run_on ks h.tasks i) ≡ ticked (executive t rule) p ks u h
     unfolding with_tasks
-    ran_tick after e t u own = e ∙ (sym (ap with_tasks work_some) ∙ ticked_is (Some i) c t u own)
+    ran_tick t u own = sym (ap with_tasks work_some) ∙ ticked_is (Some i) c t u own

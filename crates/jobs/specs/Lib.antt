@@ -1,4 +1,5 @@
 pub mod Ticks
+pub mod Faults
 pub mod Events
 pub mod Choices
 pub mod Tables

@@ -9,16 +9,22 @@ use Rattle.model.specs.declared.reply.Reply.{Reply}
 use Rattle.model.specs.declared.reply.Turn.{Turn}
 use Rattle.model.specs.declared.reply.Turn.TheVariants.{Idle, Ran}
 use Rattle.model.specs.declared.task.Task.{Task}
-use Rattle.model.specs.Machine.{PartitionState, told, refusal, answered, asked, is_runner}
+use Rattle.model.specs.Machine.{PartitionState, told, refusal, answered, asked, is_runner, put}
+use Rattle.jobs.specs.declared.event.Event.{Event}
 use Rattle.jobs.specs.declared.job_table.JobTable.{JobTable}
-use Rattle.jobs.specs.Events.{states_of}
+use Rattle.jobs.specs.Events.{changed, states_of, task_at, tasks_of_list}
+use Rattle.jobs.specs.Faults.{state_with}
 
 abbrev pub tasks_in : JobTable → List Task
-tasks_in t = vec_items t.tasks
+tasks_in t = tasks_of_list (vec_items t.tasks)
 
 -- the state of the partition
 abbrev pub state_of : JobTable → PartitionState
-state_of t = record { tasks = states_of (vec_items t.states); faults = vec_items t.faults; lost = t.lost }
+state_of t = state_with (states_of (vec_items t.tasks)) t.faults
+
+-- the state of the partition after the event at task i, if it is not refused
+abbrev pub state_by : JobTable → ℕ → Event → PartitionState
+state_by t i e = state_with (put (states_of (vec_items t.tasks)) i (changed (task_at (vec_items t.tasks) i) e)) t.faults
 
 -- what the machine answers to a request at the tick `now`, in the table's state
 abbrev pub answer_to : JobTable → ℕ → Request → Result Reply Refusal
@@ -27,6 +33,12 @@ answer_to t now a = told (refusal (tasks_in t) now (state_of t) a) (answered (ta
 -- the state of the partition after the request
 abbrev pub state_after : JobTable → ℕ → Request → PartitionState
 state_after t now a = asked now (state_of t) a (refusal (tasks_in t) now (state_of t) a)
+
+-- A request at the tick `now` has the machine's answer r, and leaves the machine's state. The tasks stay as they are.
+pub record Answered (old new : JobTable) (now : ℕ) (a : Request) (r : Result Reply Refusal) : Type 0 where
+  pub answer : r ≡ answer_to old now a
+  pub state : state_of new ≡ state_after old now a
+  pub tasks : tasks_in new ≡ tasks_in old
 
 -- a table's answer as the machine's: the reply that is made of its value, or the same refusal
 abbrev pub reply_of : {A : Type 0} → (A → Reply) → Result A Refusal → Result Reply Refusal

@@ -4,10 +4,11 @@ ghost use Rattle.model.specs.Machine.{chosen};
 ghost use Rattle.model.specs.Promises.{executive};
 ghost use Rattle.model.specs.Timetables.{bare_frame};
 ghost use Rattle.jobs.specs.Choices.{better_by};
-ghost use Rattle.jobs.specs.Events.{states_of};
+ghost use Rattle.jobs.specs.Events.{states_of, tasks_of_list};
 
+use crate::running_task::RunningTask;
 use dispatch::Dispatch;
-use model::{Job, Task, TaskRecord, TaskState};
+use model::{Job, TaskRecord};
 
 // The best so far, with one task more: its open job, if it has one, or the best so far, whichever goes first.
 fn better<D: Dispatch>(
@@ -23,15 +24,10 @@ fn better<D: Dispatch>(
         return best;
     };
     let key = dispatch.key(partition, task, job.released);
-    match best {
-        None => Some((task.number, key)),
-        Some((number, held)) => {
-            if dispatch.before(key, held) {
-                Some((task.number, key))
-            } else {
-                Some((number, held))
-            }
-        }
+    if best.is_none_or(|(_, held)| dispatch.before(key, held)) {
+        Some((task.number, key))
+    } else {
+        best
     }
 }
 
@@ -39,23 +35,18 @@ fn better<D: Dispatch>(
 pub(crate) fn first_open<D: Dispatch>(
     dispatch: &D,
     partition: u8,
-    tasks: &[Task],
-    states: &[TaskState],
+    tasks: &[RunningTask],
 ) -> Option<u8>
-    requires few { length tasks.now ≤ 16 }
-    requires level { length states.now ≡ length tasks.now }
-    ensures { result ≡ chosen (executive bare_frame (D.Dispatch.rule dispatch.now)) partition tasks.now (states_of states.now) }
+    requires { length tasks.now ≤ 16 }
+    ensures { result ≡ chosen (executive bare_frame (D.Dispatch.rule dispatch.now)) partition (tasks_of_list tasks.now) (states_of tasks.now) }
 {
     let mut best: Option<(u8, D::Key)> = None;
-    for i in 0..states.len() {
+    for (number, running) in tasks.iter().enumerate() {
         let task = TaskRecord {
-            number: i as u8,
-            task: tasks[i],
+            number: number as u8,
+            task: running.task,
         };
-        best = better(dispatch, partition, task, states[i].job, best);
+        best = better(dispatch, partition, task, running.state.job, best);
     }
-    match best {
-        Some((number, _)) => Some(number),
-        None => None,
-    }
+    best.map(|(number, _)| number)
 }

@@ -4,7 +4,9 @@
 mod choice;
 mod clock;
 mod event;
+mod fault_log;
 mod job_table;
+mod running_task;
 
 pub use clock::Clock;
 pub use job_table::JobTable;

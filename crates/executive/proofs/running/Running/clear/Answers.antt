@@ -1,17 +1,18 @@
-use Rattle.std.proofs.Common.{sym, refl, arith}
+use Rattle.std.proofs.Common.{refl}
+use Rattle.std.proofs.lemmas.Result.{err_from_is_err_and}
 use Rattle.model.specs.declared.call.Request.TheVariants.{Clear}
-use Rattle.executive.proofs.Calls.{asks, lacks, stays_level}
+use Rattle.executive.proofs.Calls.{asks, stays_level, turned_away}
 use Rattle.executive.proofs.running.Running.clear.Goals as goal
 
-pub returns-then-partition-len : goal.returns-then-partition-len
-returns-then-partition-len g c =
-    lacks g.T.Timetable.means g.D.Dispatch.rule c.args.self.now (sym c.if-not-is_cleared.ensures) c.args.partition Clear (omega arith)
+pub returns-in_err-number : goal.returns-in_err-number
+returns-in_err-number g c =
+    let p = err_from_is_err_and c.from_residual.result c.from_residual.ensures.1 in
+    rw (p.1, p.2) (turned_away g.T.Timetable.means g.D.Dispatch.rule c.args.self.now c.args.partition Clear c.in_err-number.field-0.0 c.in_err-number.ensures)
 
 pub invariant_of-self : goal.invariant_of-self
 invariant_of-self g c =
-    record { level = stays_level g.T.Timetable.means g.D.Dispatch.rule c.args.self.now (sym c.if-not-is_cleared.ensures) c.args.partition Clear _ (omega arith) c.index_mut.ensures.value c.clear.new.self c.clear.ensures.tasks }
+    record { level = stays_level g.T.Timetable.means g.D.Dispatch.rule c.args.self.now c.args.partition Clear c.in_ok-number.number c.in_ok-number.ensures _ c.index_mut.ensures.value c.clear.new.self _ (c.clear.ensures c.args.self.now.clock) }
 
 pub returns : goal.returns
 returns g c =
-    asks g.T.Timetable.means g.D.Dispatch.rule c.args.self.now (sym c.if-not-is_cleared.ensures) c.args.partition Clear _ (omega arith) c.index_mut.ensures.value
-    c.clear.new.self _ _ (c.clear.ensures.answer c.args.self.now.clock.tick) (c.clear.ensures.after c.args.self.now.clock.tick) refl refl
+    asks g.T.Timetable.means g.D.Dispatch.rule c.args.self.now c.args.partition Clear c.in_ok-number.number c.in_ok-number.ensures _ c.index_mut.ensures.value c.clear.new.self _ _ (c.clear.ensures c.args.self.now.clock) refl refl

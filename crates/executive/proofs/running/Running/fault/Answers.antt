@@ -1,14 +1,13 @@
-use Rattle.std.proofs.Common.{sym, arith}
+use Rattle.std.proofs.lemmas.Result.{err_from_is_err_and}
 use Rattle.model.specs.declared.call.Request.TheVariants.{Fault}
-use Rattle.executive.proofs.Calls.{lacks, looks}
+use Rattle.executive.proofs.Calls.{looks, turned_away}
 use Rattle.executive.proofs.running.Running.fault.Goals as goal
 
-pub returns-then-partition-len : goal.returns-then-partition-len
-returns-then-partition-len g c =
-    lacks g.T.Timetable.means g.D.Dispatch.rule c.args.self.now (sym c.if-not-is_cleared.ensures) c.args.partition (Fault c.args.entry) (omega arith)
+pub returns-in_err-number : goal.returns-in_err-number
+returns-in_err-number g c =
+    let p = err_from_is_err_and c.from_residual.result c.from_residual.ensures.1 in
+    rw (p.1, p.2) (turned_away g.T.Timetable.means g.D.Dispatch.rule c.args.self.now c.args.partition (Fault c.args.entry) c.in_err-number.field-0.0 c.in_err-number.ensures)
 
 pub returns : goal.returns
 returns g c =
-    let u = c.args.self.now.clock.tick in
-    looks g.T.Timetable.means g.D.Dispatch.rule c.args.self.now (sym c.if-not-is_cleared.ensures) c.args.partition (Fault c.args.entry) _ (omega arith) c.index.ensures
-    _ (c.fault.ensures.answer u) (c.fault.ensures.after u)
+    looks g.T.Timetable.means g.D.Dispatch.rule c.args.self.now c.args.partition (Fault c.args.entry) c.in_ok-number.number c.in_ok-number.ensures _ c.index.ensures _ (c.fault.ensures c.args.self.now.clock)

@@ -1,17 +1,32 @@
-use Rattle.std.proofs.Common.{vec_items, refl, arith}
-use Rattle.executive.proofs.Calls.{level_of}
-use Rattle.executive.proofs.Same.{same_from}
-use Rattle.executive.proofs.Tables.{kept, lacking_answer, lacking_state, turn_answer, turn_state}
+use Rattle.std.proofs.Common.{◌≡◌, Some, None, vec_items, refl, sym, ap, ◌∙◌, arith, rules}
+use Rattle.model.specs.Timetables.{owner_at}
+use Rattle.jobs.specs.Tables.{tick_reply_of}
+use Rattle.executive.proofs.Tables.{kept, lacking_answer, lacking_state, spare_answer, spare_state, turn_answer, turn_state}
 use Rattle.executive.proofs.running.Running.turn.Goals as goal
+
+pub returns-in_default : goal.returns-in_default
+returns-in_default g c =
+    let x = c.args.self.now in
+    let t = g.T.Timetable.means x.sealed.table in
+    let rule = g.D.Dispatch.rule x.sealed.dispatch in
+    let own : owner_at t x.clock ≡ None = ap (owner_at t) (sym c.now.ensures.tick) ∙ sym c.in_default.ensures in
+    record {
+      answer = λ l. spare_answer t rule (vec_items x.tables) _ x.level x.clock l own;
+      after = λ l. spare_state t rule (vec_items x.tables) _ x.level x.clock l own;
+      same = refl;
+      clock = refl;
+    }
 
 pub returns-then-p-len : goal.returns-then-p-len
 returns-then-p-len g c =
     let x = c.args.self.now in
+    let p = c.in-Some.p in
     let t = g.T.Timetable.means x.sealed.table in
     let rule = g.D.Dispatch.rule x.sealed.dispatch in
+    let own : owner_at t x.clock ≡ Some p = ap (owner_at t) (sym c.now.ensures.tick) ∙ sym c.in-Some.ensures in
     record {
-      answer = λ own l. lacking_answer t rule (vec_items x.tables) _ (level_of x) x.clock.tick l c.args.p own (omega arith);
-      after = λ own l. lacking_state t rule (vec_items x.tables) _ (level_of x) x.clock.tick l c.args.p own (omega arith);
+      answer = λ l. lacking_answer t rule (vec_items x.tables) _ x.level x.clock l p own (omega arith);
+      after = λ l. lacking_state t rule (vec_items x.tables) _ x.level x.clock l p own (omega arith);
       same = refl;
       clock = refl;
     }
@@ -19,28 +34,19 @@ returns-then-p-len g c =
 pub invariant_of-self-2 : goal.invariant_of-self-2
 invariant_of-self-2 g c =
     let x = c.args.self.now in
-    record { level = same_from _ _ (kept (vec_items x.tables) _ (level_of x) c.args.p _ (omega arith) c.index_mut.ensures.value c.work.new.self c.work.ensures.tasks) }
+    record { level = kept (vec_items x.tables) _ x.level c.in-Some.p _ (omega arith) c.index_mut.ensures.value c.work.new.self c.work.ensures.tasks }
 
-pub returns-in-None : goal.returns-in-None
-returns-in-None g c =
+pub returns : goal.returns
+returns g c =
     let x = c.args.self.now in
+    let p = c.in-Some.p in
     let t = g.T.Timetable.means x.sealed.table in
     let rule = g.D.Dispatch.rule x.sealed.dispatch in
+    let own : owner_at t x.clock ≡ Some p = ap (owner_at t) (sym c.now.ensures.tick) ∙ sym c.in-Some.ensures in
+    let told : c.map_or.result ≡ tick_reply_of p c.work.result = search rules in
     record {
-      answer = λ own l. turn_answer t rule (vec_items x.tables) _ (level_of x) x.clock.tick l c.args.p own _ (omega arith) c.index_mut.ensures.value _ (c.in-None.ensures.answer t);
-      after = λ own l. turn_state t rule (vec_items x.tables) _ (level_of x) x.clock.tick l c.args.p own _ (omega arith) c.index_mut.ensures.value c.work.new.self (c.work.ensures.after t x.clock.tick own);
-      same = refl;
-      clock = refl;
-    }
-
-pub returns-in-Some : goal.returns-in-Some
-returns-in-Some g c =
-    let x = c.args.self.now in
-    let t = g.T.Timetable.means x.sealed.table in
-    let rule = g.D.Dispatch.rule x.sealed.dispatch in
-    record {
-      answer = λ own l. turn_answer t rule (vec_items x.tables) _ (level_of x) x.clock.tick l c.args.p own _ (omega arith) c.index_mut.ensures.value _ (c.in-Some.ensures.answer t);
-      after = λ own l. turn_state t rule (vec_items x.tables) _ (level_of x) x.clock.tick l c.args.p own _ (omega arith) c.index_mut.ensures.value c.work.new.self (c.work.ensures.after t x.clock.tick own);
+      answer = λ l. turn_answer t rule (vec_items x.tables) _ x.level x.clock l p own _ (omega arith) c.index_mut.ensures.value _ (told ∙ c.work.ensures.answer t);
+      after = λ l. turn_state t rule (vec_items x.tables) _ x.level x.clock l p own _ (omega arith) c.index_mut.ensures.value c.work.new.self (c.work.ensures.after t x.clock own);
       same = refl;
       clock = refl;
     }

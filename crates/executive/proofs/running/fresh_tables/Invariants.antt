@@ -2,7 +2,7 @@ use Rattle.std.proofs.Common.{◌≡◌, map, take, replicate, vec_items}
 use Rattle.model.specs.Machine.{untouched}
 use Rattle.draft.specs.Drafts.{module_of}
 use Rattle.jobs.specs.Tables.{state_of, tasks_in}
-use Rattle.executive.proofs.running.start.fresh_tables.Given as goal
+use Rattle.executive.proofs.running.fresh_tables.Given as goal
 
 abbrev pub invariant-loop-partition : goal.invariant-loop-partition
 invariant-loop-partition l =

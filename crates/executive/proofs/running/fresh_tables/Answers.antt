@@ -3,7 +3,7 @@ use Rattle.std.proofs.lemmas.List.{map_push, replicate_more, take_all, take_more
 use Rattle.model.specs.Machine.{untouched}
 use Rattle.draft.specs.Drafts.{module_of}
 use Rattle.jobs.specs.Tables.{state_of, tasks_in}
-use Rattle.executive.proofs.running.start.fresh_tables.Goals as goal
+use Rattle.executive.proofs.running.fresh_tables.Goals as goal
 
 pub loop-partition-preserved : goal.loop-partition-preserved
 loop-partition-preserved c =

@@ -8,7 +8,7 @@ use Rattle.order.proofs.Laws.{lawful_by_keys}
 use Rattle.promises.specs.Promises.{ExactVerdict}
 use Rattle.promises.proofs.Promises.{exact_verdict}
 use Rattle.executive.proofs.Sealing.{few, clears_never_late}
-use Rattle.executive.proofs.sealed.calls.seal.Goals as goal
+use Rattle.executive.proofs.sealed.seal.Goals as goal
 
 pub returns : goal.returns
 returns g c =
