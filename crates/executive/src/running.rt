@@ -67,16 +67,16 @@ impl<T: Timetable, D: Dispatch> Running<T, D> {
         ensures same { self.new.sealed ≡ self.old.sealed }
         ensures clock { self.new.clock ≡ self.old.clock }
     {
-        let Some(p) = self.sealed.table.owner(self.clock.now()) else {
+        let Some(partition) = self.sealed.table.owner(self.clock.now()) else {
             return Turn::Spare;
         };
-        if p as usize >= self.tables.len() {
-            return Turn::Idle(p);
+        if partition as usize >= self.tables.len() {
+            return Turn::Idle(partition);
         }
-        self.tables[p as usize]
-            .work(&self.sealed.dispatch, p)
-            .map_or(Turn::Idle(p), |(task, progress)| {
-                Turn::Ran(p, task, progress)
+        self.tables[partition as usize]
+            .work(&self.sealed.dispatch, partition)
+            .map_or(Turn::Idle(partition), |(task, progress)| {
+                Turn::Ran(partition, task, progress)
             })
     }
 

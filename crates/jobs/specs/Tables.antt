@@ -1,5 +1,5 @@
 -- Job tables: the state of the partition that a table stands for, and what the machine answers and leaves in that state.
-use Rattle.std.specs.Prelude.{◌≡◌, ℕ, false, List, Some, None, vec_items, Option, Result}
+use Rattle.std.specs.Prelude.{◌≡◌, ℕ, false, List, Some, None, vec_items, Option, Result, MatchResult}
 use Rattle.std.specs.Option.{option_map}
 use Rattle.std.specs.Result.{result_map_both}
 use Rattle.model.specs.declared.call.Request.{Request}
@@ -9,7 +9,7 @@ use Rattle.model.specs.declared.reply.Reply.{Reply}
 use Rattle.model.specs.declared.reply.Turn.{Turn}
 use Rattle.model.specs.declared.reply.Turn.TheVariants.{Idle, Ran}
 use Rattle.model.specs.declared.task.Task.{Task}
-use Rattle.model.specs.Machine.{PartitionState, told, refusal, answered, asked, is_runner, put}
+use Rattle.model.specs.Machine.{PartitionState, told, refusal, answered, asked, is_runner, noted, put}
 use Rattle.jobs.specs.declared.event.Event.{Event}
 use Rattle.jobs.specs.declared.job_table.JobTable.{JobTable}
 use Rattle.jobs.specs.Events.{changed, states_of, task_at, tasks_of_list}
@@ -25,6 +25,13 @@ state_of t = state_with (states_of (vec_items t.tasks)) t.faults
 -- the state of the partition after the event at task i, if it is not refused
 abbrev pub state_by : JobTable → ℕ → Event → PartitionState
 state_by t i e = state_with (put (states_of (vec_items t.tasks)) i (changed (task_at (vec_items t.tasks) i) e)) t.faults
+
+-- what an event at task i leaves of the partition at the tick `now`, where its answer is r: if it is refused, that is noted
+abbrev pub Leaves : JobTable → ℕ → ℕ → Event → Result ℕ Refusal → JobTable → Type 0
+Leaves old now i e r new =
+    MatchResult r
+    (λ _. state_of new ≡ state_by old i e)
+    (λ n. state_of new ≡ noted (state_of old) (record { refusal = n; task = i; tick = now }))
 
 -- what the machine answers to a request at the tick `now`, in the table's state
 abbrev pub answer_to : JobTable → ℕ → Request → Result Reply Refusal

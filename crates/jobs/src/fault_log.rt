@@ -4,13 +4,11 @@ ghost use Rattle.model.specs.declared.job.TaskState.{TaskState};
 ghost use Rattle.model.specs.Machine.{noted};
 ghost use Rattle.jobs.specs.Faults.{no_faults, state_with};
 
-use model::{Fault, Refusal};
+use model::Fault;
 use std::alloc::{AllocError, Global};
 use std::marker::Model;
 
 const MOST_ENTRIES: usize = 8;
-
-const MOST_LOST: u16 = 65_535;
 
 // The entries, at most 8, with room for all of them, so that noting a fault allocates nothing; and how many more faults
 // were lost.
@@ -40,19 +38,15 @@ impl FaultLog {
         Ok(FaultLog { entries, lost: 0 })
     }
 
-    // Notes why a task's request is refused: one entry more. After 8 it is lost, and the lost count stops at 65,535.
+    // One entry more. After 8 it is lost, and the lost count stops at 65,535.
     #[tactic(auto, unfolding(model::specs::Machine::noted))]
-    pub(crate) fn note(&mut self, refusal: Refusal, task: u8, tick: u64)
-        ensures { (xs : ℕ → TaskState) → state_with xs self.new ≡ noted (state_with xs self.old) (record { refusal = refusal; task = task; tick = tick }) }
+    pub(crate) fn note(&mut self, fault: Fault)
+        ensures { (xs : ℕ → TaskState) → state_with xs self.new ≡ noted (state_with xs self.old) fault }
     {
         if self.entries.len() < MOST_ENTRIES {
-            self.entries.push_reserved(Fault {
-                refusal,
-                task,
-                tick,
-            });
-        } else if self.lost < MOST_LOST {
-            self.lost += 1;
+            self.entries.push_reserved(fault);
+        } else {
+            self.lost = self.lost.saturating_add(1);
         }
     }
 

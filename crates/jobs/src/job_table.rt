@@ -1,5 +1,5 @@
 // What is known of one partition while a module runs. None of its calls but `new` allocates.
-ghost use Rattle.std.specs.Prelude.{◌≡◌, ℕ, ◌≤◌, IfOk, MatchResult, Ok, Some, vec_len};
+ghost use Rattle.std.specs.Prelude.{◌≡◌, ℕ, ◌≤◌, IfOk, Ok, Some, vec_len};
 
 use crate::choice::first_open;
 use crate::clock::Clock;
@@ -21,14 +21,14 @@ pub struct JobTable {
 
 impl JobTable {
     ghost use Rattle.draft.specs.Drafts.{module_of};
-    ghost use Rattle.model.specs.Machine.{untouched, noted, chosen, turn_reply, ticked};
+    ghost use Rattle.model.specs.Machine.{untouched, chosen, turn_reply, ticked};
     ghost use Rattle.model.specs.Modules.{tasks_of};
     ghost use Rattle.model.specs.Promises.{executive};
     ghost use Rattle.model.specs.Timetables.{Timetable, owner_at};
     ghost use Rattle.model.specs.declared.call.Request.TheVariants as request;
     ghost use Rattle.model.specs.declared.reply.Reply.TheVariants as reply;
     ghost use Rattle.jobs.specs.Events.{outcome_in};
-    ghost use Rattle.jobs.specs.Tables.{tasks_in, state_of, state_by, reply_of, tick_reply_of, Answered, OnlyRunnerWritten};
+    ghost use Rattle.jobs.specs.Tables.{tasks_in, state_of, reply_of, tick_reply_of, Answered, Leaves, OnlyRunnerWritten};
 
     // A table for the tasks of a partition of the draft, in which nothing has happened.
     pub fn new(heap: Global, draft: &Draft, partition: u8) -> Result<JobTable, AllocError>
@@ -42,12 +42,16 @@ impl JobTable {
     // The event happens to a task at the tick `now`. If it is refused, that is noted.
     fn ask(&mut self, now: u64, task: u8, event: Event) -> Result<u16, Refusal>
         ensures answer { result ≡ outcome_in self.old.tasks.items task event }
-        ensures after { MatchResult result (λ _. state_of self.new ≡ state_by self.old task event) (λ n. state_of self.new ≡ noted (state_of self.old) (record { refusal = n; task = task; tick = now })) }
+        ensures after { Leaves self.old now task event result self.new }
         ensures tasks { tasks_in self.new ≡ tasks_in self.old }
     {
         let answer = happen(&mut self.tasks, task, event);
         if let Err(refusal) = answer {
-            self.faults.note(refusal, task, now);
+            self.faults.note(Fault {
+                refusal,
+                task,
+                tick: now,
+            });
         }
         answer
     }

@@ -17,10 +17,10 @@ returns-in_default g c =
       clock = refl;
     }
 
-pub returns-then-p-len : goal.returns-then-p-len
-returns-then-p-len g c =
+pub returns-then-partition-len : goal.returns-then-partition-len
+returns-then-partition-len g c =
     let x = c.args.self.now in
-    let p = c.in-Some.p in
+    let p = c.in-Some.partition in
     let t = g.T.Timetable.means x.sealed.table in
     let rule = g.D.Dispatch.rule x.sealed.dispatch in
     let own : owner_at t x.clock ≡ Some p = ap (owner_at t) (sym c.now.ensures.tick) ∙ sym c.in-Some.ensures in
@@ -34,12 +34,12 @@ returns-then-p-len g c =
 pub invariant_of-self-2 : goal.invariant_of-self-2
 invariant_of-self-2 g c =
     let x = c.args.self.now in
-    record { level = kept (vec_items x.tables) _ x.level c.in-Some.p _ (omega arith) c.index_mut.ensures.value c.work.new.self c.work.ensures.tasks }
+    record { level = kept (vec_items x.tables) _ x.level c.in-Some.partition _ (omega arith) c.index_mut.ensures.value c.work.new.self c.work.ensures.tasks }
 
 pub returns : goal.returns
 returns g c =
     let x = c.args.self.now in
-    let p = c.in-Some.p in
+    let p = c.in-Some.partition in
     let t = g.T.Timetable.means x.sealed.table in
     let rule = g.D.Dispatch.rule x.sealed.dispatch in
     let own : owner_at t x.clock ≡ Some p = ap (owner_at t) (sym c.now.ensures.tick) ∙ sym c.in-Some.ensures in

@@ -3,7 +3,6 @@ use Rattle.std.proofs.lemmas.List.{length-map, with_items_is}
 use Rattle.model.specs.declared.job.TaskState.{TaskState}
 use Rattle.model.specs.Machine.{PartitionState, progress}
 use Rattle.jobs.specs.declared.event.Event.TheVariants.{Tick}
-use Rattle.jobs.specs.declared.running_task.RunningTask.{RunningTask}
 use Rattle.jobs.specs.Events.{changed, states_of, task_at, tasks_of_list, with_event}
 use Rattle.jobs.specs.Faults.{state_with}
 use Rattle.jobs.specs.Tables.{tasks_in, state_of}
