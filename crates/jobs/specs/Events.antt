@@ -14,6 +14,7 @@ use Rattle.jobs.specs.declared.running_task.RunningTask.{RunningTask}
 abbrev pub at_rest : TaskState
 at_rest = record { last = None; job = None }
 
+-- the task, never released
 abbrev pub resting : Task → RunningTask
 resting k = record { task = k; state = at_rest }
 

@@ -81,7 +81,7 @@ impl JobTable {
     }
 
     // Empties the fault entries and the lost count; the answer is how many there were of each.
-    #[tactic(auto, unfolding(model::specs::Machine::refusal, model::specs::Machine::unless, model::specs::Machine::told, model::specs::Machine::answered, model::specs::Machine::asked, model::specs::Machine::obeyed, model::specs::Machine::refused_of))]
+    #[tactic(auto, unfolding(model::specs::Machine::refusal, model::specs::Machine::told, model::specs::Machine::answered, model::specs::Machine::asked, model::specs::Machine::obeyed))]
     pub fn clear(&mut self) -> (u8, u16)
         ensures { (u : ℕ) → Answered self.old self.new u request.Clear (Ok (reply.Emptied result.0 result.1)) }
     {
