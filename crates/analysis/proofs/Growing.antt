@@ -1,5 +1,5 @@
 -- A stretch that grows by one tick, and what it tells at the deadline.
-use Rattle.std.proofs.Common.{◌≡◌, ℕ, ◌+◌, ◌%◌, ◌<◌, ◌≤◌, Bool, true, false, cond, MatchBool, length, sym, refl, ap, ◌∙◌, inl, inr, arith}
+use Rattle.std.proofs.Common.{◌≡◌, ℕ, ◌+◌, ◌%◌, ◌<◌, ◌≤◌, Bool, true, false, cond, MatchBool, length, sym, refl, ap, ◌∙◌, subst, inl, inr, arith}
 use native.Mathlib.Nat.{mod-add-mod}
 use mir.Val.{bool_byte}
 use Rattle.std.proofs.lemmas.Bool.{cases_eq}
@@ -27,14 +27,14 @@ when_by false P Q h k = k refl
 abbrev pub begun : ℕ → Stretch
 begun place = record { ticks = 0; supply = 0; place = place; needed = 0 }
 
-pub begun_short : (p : Partition) (i f s : ℕ) → TooShort p i f s (begun (s % f))
-begun_short p i f s = record {
+pub begun_short : (p : Partition) (i f s : ℕ) (x : Stretch) → x ≡ begun (s % f) → TooShort p i f s x
+begun_short p i f s x e = subst (TooShort p i f s) (sym e) (record {
   supplied = sym (supply_none p s);
   few = omega arith;
   after = ap (λ x. x % f) (omega arith);
   short = λ t a b. absurd (omega arith);
   low = λ t l. omega arith;
-}
+})
 
 -- One tick more, which is owned or not.
 module _ (p : Partition) (i f s : ℕ) (x : Stretch) (h : TooShort p i f s x) (b : Bool) (here : b ≡ p.owns (s + x.ticks)) (got : ℕ) (e : got ≡ x.supply + bool_byte b) where

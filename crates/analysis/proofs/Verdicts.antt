@@ -67,7 +67,7 @@ found_same f g (suc n) h = ap₂ or_else (found_same f g n (λ k l. h k (omega a
 
 -- Owners that were drawn stand for the timetable.
 module _ (t : Timetable) (o : Owners) (h : DrawnFrom t o) where
-  pub drawn_owner : 1 ≤ t.frame → (u : ℕ) → owner_at (drawn o) u ≡ owner_at t u
+  drawn_owner : 1 ≤ t.frame → (u : ℕ) → owner_at (drawn o) u ≡ owner_at t u
   unfolding owner_at
   drawn_owner some u = ap (λ f. (drawn o).owner (u % f)) h.frame ∙ h.owner (u % t.frame) (mod-lt u some)
 
@@ -81,6 +81,13 @@ module _ (t : Timetable) (o : Owners) (h : DrawnFrom t o) where
   drawn_foreign m =
       ap (first_found (λ x. cond (not (owner_known m ((drawn o).owner x))) (Some x) None)) h.frame
       ∙ found_same _ _ t.frame (λ x l. ap (λ w. cond (not (owner_known m w)) (Some x) None) (h.owner x l))
+
+  -- first failing starts on places that a partition owns
+  pub drawn_start : 1 ≤ t.frame → (order : Order) (m : Module) (n : ℕ) (p : Partition) (places : Places) → p ≡ partition_of order n (tasks_of m n) (ticks_of places) →
+      places.frame ≡ o.frame → ((u : ℕ) → ticks_of places u ≡ owned_by n (owner_at (drawn o) u)) → (i : ℕ) →
+      failing_start p places.frame i ≡ failing_start (partition t order m n) t.frame i
+  drawn_start some order m n p places e f ticks i =
+      ap₂ (λ q x. failing_start q x i) (same_partition t order m n p places e (λ u. ticks u ∙ ap (owned_by n) (drawn_owner some u))) (f ∙ h.frame)
 
 -- Partitions that a module lacks have no tasks, and so no finding.
 or_nothing : {A : Type 0} (o : Option A) → or_else o None ≡ o

@@ -1,51 +1,21 @@
-use Rattle.std.proofs.Common.{◌≡◌, ℕ, ◌<◌, ◌≤◌, Bool, true, refl, ap, sym, ◌∙◌, subst, arith}
-use Rattle.std.proofs.lemmas.Bool.Decides.{when_true, when_false}
+use Rattle.std.proofs.Common.{◌≡◌, ℕ, ◌<◌, ◌≤◌, Bool, true, ap, ◌∙◌, subst, arith}
+use Rattle.std.proofs.lemmas.Bool.Decides.{when_true}
 use Rattle.model.specs.InTime.{D, Partition, PassesIn}
 use Rattle.model.proofs.Gaps.{passes_at}
 use Rattle.analysis.specs.declared.places.Places.{Places}
-use Rattle.analysis.specs.declared.stretch.Stretch.{Stretch}
 use Rattle.analysis.specs.Partitions.{seen}
 use Rattle.analysis.specs.Responses.{wants_first}
-use Rattle.analysis.specs.Stretches.{TooShort}
 use Rattle.analysis.proofs.Growing.{begun_short, never_passes, passes_wider}
 use Rattle.analysis.proofs.Placing.{ticks_again}
-use Rattle.analysis.proofs.Tried.{TriedPass, tried_skip, tried_more, tried_all, tried_below}
+use Rattle.analysis.proofs.Tried.{TriedPass, tried_more, tried_all, tried_below}
 use Rattle.analysis.proofs.local_task.LocalTask.response.Goals as goal
 use Rattle.analysis.proofs.local_task.LocalTask.response.Goals.{else-starts-test, then-starts-test+else-not-tries+then-stretch-deadline}
 
-pub starts-init : goal.starts-init
-starts-init g c = record { none_fails = refl; within = omega arith; pass = λ s l t. absurd (omega arith) }
-
-pub starts-preserved-then-not-tries : goal.starts-preserved-then-not-tries
-starts-preserved-then-not-tries g c = record {
-  none_fails = c.starts.invariant.none_fails;
-  within = c.starts.invariant.within;
-  pass = tried_skip _ _ _ _ c.starts.start c.starts.invariant.pass (sym c.tries.ensures ∙ c.if-not-tries.true);
-}
-
 pub lengths-init : goal.lengths-init
-lengths-init g c =
-    let p : Partition = seen g.O.LocalOrder.order c.args.self.now.partition.now in
-    let i : ℕ = c.args.self.now.number in
-    let f : ℕ = c.args.self.now.partition.now.places.now.frame in
-    let P : Stretch → Type 0 = λ x. TooShort p i f c.starts.start x in
-    record {
-      none_fails = c.starts.invariant.none_fails;
-      within = omega (arith, ap (λ x. x.ticks) c.at-stretch.ensures);
-      short = subst P (sym c.at-stretch.ensures) (begun_short p i f c.starts.start);
-    }
-
-pub grow-requires : goal.grow-requires
-grow-requires g c = record { below = omega (arith, c.lengths.invariant.within, c.if-stretch-deadline.false); tested = c.lengths.invariant.short }
-
-pub lengths-smaller : goal.lengths-smaller
-lengths-smaller g c = omega (arith, c.grow.ensures.grown, c.lengths.invariant.within, c.if-stretch-deadline.false)
-
-pub lengths-preserved : goal.lengths-preserved
-lengths-preserved g c = record {
-  none_fails = c.lengths.invariant.none_fails;
-  within = omega (arith, c.grow.ensures.grown, c.lengths.invariant.within, c.if-stretch-deadline.false);
-  short = when_false _ _ c.if-grow.false c.grow.ensures.tells;
+lengths-init g c = record {
+  none_fails = c.starts.invariant.none_fails;
+  within = omega (arith, ap (λ x. x.ticks) c.at-stretch.ensures);
+  short = begun_short _ _ _ _ _ c.at-stretch.ensures;
 }
 
 pub starts-preserved : goal.starts-preserved
