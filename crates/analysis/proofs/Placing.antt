@@ -18,4 +18,4 @@ module _ (places : Places) where
 
 -- the ticks come round
 pub ticks_again : {O : Type 0} (p : Partition O) (meaning : O → Order) → Repeats (seen meaning p) p.places.now.frame
-ticks_again p meaning = (p.places.now.ok.0, λ u. ap (λ y. get_or p.places.now.owned y false) (add-mod_right u p.places.now.frame))
+ticks_again p meaning = (p.places.now.framed.0, λ u. ap (λ y. get_or p.places.now.owned y false) (add-mod_right u p.places.now.frame))

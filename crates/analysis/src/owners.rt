@@ -1,5 +1,5 @@
 // The owners of a timetable's places, drawn from it once.
-ghost use Rattle.std.specs.Prelude.{◌≡◌, ◌≤◌, length};
+ghost use Rattle.std.specs.Prelude.{◌≤◌};
 
 use std::array;
 use timetable::Timetable;
@@ -8,11 +8,11 @@ use timetable::Timetable;
 pub struct Owners {
     pub(crate) frame: u16,
     pub(crate) places: [Option<u8>; 1024],
-    ghost ok: { (1 ≤ frame) × (frame ≤ 1024) × (length places ≡ 1024) },
+    ghost framed: { (1 ≤ frame) × (frame ≤ 1024) },
 }
 
 impl Owners {
-    ghost use Rattle.std.specs.Prelude.{◌<◌, None, cond, nat_lt, slice_index_or};
+    ghost use Rattle.std.specs.Prelude.{◌≡◌, ◌<◌, None, cond, nat_lt, slice_index_or};
     ghost use Rattle.model.specs.Timetables.{owner_at};
     ghost use Rattle.analysis.specs.Owners.{DrawnFrom};
 

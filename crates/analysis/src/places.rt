@@ -1,5 +1,5 @@
 // The places of a frame that one partition owns.
-ghost use Rattle.std.specs.Prelude.{◌≡◌, ◌≤◌, length};
+ghost use Rattle.std.specs.Prelude.{◌≤◌};
 
 use crate::owners::Owners;
 use crate::response::Wanted;
@@ -9,11 +9,11 @@ use std::array;
 pub struct Places {
     pub(crate) frame: u16,
     owned: [bool; 1024],
-    ghost ok: { (1 ≤ frame) × (frame ≤ 1024) × (length owned ≡ 1024) },
+    ghost framed: { (1 ≤ frame) × (frame ≤ 1024) },
 }
 
 impl Places {
-    ghost use Rattle.std.specs.Prelude.{ℕ, ◌+◌, ◌%◌, ◌<◌};
+    ghost use Rattle.std.specs.Prelude.{◌≡◌, ℕ, ◌+◌, ◌%◌, ◌<◌};
     ghost use Rattle.std.specs.Option.{option_map};
     ghost use Rattle.model.specs.Timetables.{owned_by, owner_at};
     ghost use Rattle.analysis.specs.Owners.{drawn};

@@ -30,5 +30,5 @@ returns-in-None g c =
     let places : Places = c.of-places.result in
     let p : Partition = seen g.O.LocalOrder.order c.of-partition.result in
     let i : ℕ = c.args.task in
-    sym (absent_start p places.frame i places.ok.0 (omega (arith, c.in-None.ensures, c.from.ensures)))
+    sym (absent_start p places.frame i places.framed.0 (omega (arith, c.in-None.ensures, c.from.ensures)))
     ∙ drawn_start t _ c.draw-owners.ensures some order (module_of c.args.draft.now) c.args.partition p places c.of-partition.ensures.is c.of-places.ensures.frame c.of-places.ensures.ticks i

@@ -7,7 +7,7 @@ use Rattle.analysis.proofs.owners.Owners.draw.Goals as goal
 pub invariant_of-result : goal.invariant_of-result
 invariant_of-result g c =
     let within = (g.met.T.Timetable.lawful c.args.table.now).frame_within in
-    record { ok = (omega (arith, c.frame-frame.ensures), omega (arith, c.frame-frame.ensures), c.from_fn-places.ensures.items.long) }
+    record { framed = (omega (arith, c.frame-frame.ensures), omega (arith, c.frame-frame.ensures)) }
 
 pub returns : goal.returns
 unfolding owner_at

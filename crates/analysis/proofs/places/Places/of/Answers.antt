@@ -8,5 +8,5 @@ pub returns-clause-ticks : goal.returns-clause-ticks
 unfolding owner_at owned_by
 returns-clause-ticks c = λ u.
     let o : Owners = c.args.owners.now in
-    let l : u % o.frame < o.frame = mod-lt u o.ok.0 in
-    filled _ _ (λ x. owned_by c.args.partition (get_or o.places x None)) (λ x y q k. search rules) _ 1024 c.from_fn.ensures.items (u % o.frame) false (omega (arith, o.ok.1))
+    let l : u % o.frame < o.frame = mod-lt u o.framed.0 in
+    filled _ _ (λ x. owned_by c.args.partition (get_or o.places x None)) (λ x y q k. search rules) _ 1024 c.from_fn.ensures.items (u % o.frame) false (omega (arith, o.framed.1))
