@@ -12,20 +12,25 @@ use Rattle.model.proofs.Plans.{plans_clear}
 use Rattle.model.proofs.Timetables.{refuses}
 use Rattle.windows.specs.Refusals as lists
 use Rattle.windows.specs.declared.refusal.WindowRefusal.{WindowRefusal}
+use Rattle.planner.specs.declared.refusal.PlanRefusal.{PlanRefusal}
 use Rattle.planner.specs.Plans.{Clears, counted, list_after}
 
--- what the check of the frame says
-pub frame_good : (f : ℕ) (r : Result (Unit {0}) WindowRefusal) → is_ok r ≡ true → lists.told r ≡ frame_answer f → frame_answer f ≡ granted tt
-frame_good f (Ok x) e h = sym h
-frame_good f (Err x) e h = absurd (cc)
+-- what the check of the frame says, its refusal made the planner's
+module _ (f : ℕ) (r : Result (Unit {0}) WindowRefusal) (s : Result (Unit {0}) PlanRefusal) (same : is_ok s ≡ is_ok r) (checked : lists.told r ≡ frame_answer f) where
+  good_told : (q : Result (Unit {0}) WindowRefusal) → true ≡ is_ok q → lists.told q ≡ frame_answer f → frame_answer f ≡ granted tt
+  good_told (Ok x) e h = sym h
+  good_told (Err x) e h = absurd (cc)
 
-refused_either : (b : Bool) (x : WindowRefusal) → lists.told (Err x) ≡ cond b (granted tt) (refused 51 []) → ◌≡◌ {A = Answer (Unit {0})} (cond b (granted tt) (refused 51 [])) (refused 51 [])
-refused_either false x h = refl
-refused_either true x h = absurd (refuses (lists.number x) (lists.values x) tt h)
+  refused_told : (q : Result (Unit {0}) WindowRefusal) (b : Bool) → false ≡ is_ok q → lists.told q ≡ cond b (granted tt) (refused 51 []) → ◌≡◌ {A = Answer (Unit {0})} (cond b (granted tt) (refused 51 [])) (refused 51 [])
+  refused_told q false e h = refl
+  refused_told (Ok x) true e h = absurd (cc)
+  refused_told (Err x) true e h = absurd (refuses (lists.number x) (lists.values x) tt h)
 
-pub frame_refused : (f : ℕ) (r : Result (Unit {0}) WindowRefusal) → is_ok r ≡ false → lists.told r ≡ frame_answer f → frame_answer f ≡ refused 51 []
-frame_refused f (Ok x) e h = absurd (cc)
-frame_refused f (Err x) e h = refused_either (leb 1 f && leb f 1024) x h
+  pub frame_good : (x : Unit {0}) → s ≡ Ok x → frame_answer f ≡ granted tt
+  frame_good x e = good_told r (sym (ap is_ok e) ∙ same) checked
+
+  pub frame_refused : (x : PlanRefusal) → s ≡ Err x → frame_answer f ≡ refused 51 []
+  frame_refused x e = refused_told r (leb 1 f && leb f 1024) (sym (ap is_ok e) ∙ same) checked
 
 -- The plan, where the check of the frame has answered.
 module _ (order : Order) (m : Module) (f n : ℕ) where

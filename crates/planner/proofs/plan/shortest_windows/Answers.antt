@@ -1,4 +1,4 @@
-use Rattle.std.proofs.Common.{◌≡◌, [], leb, sum, is_ok, MatchResult, Ok, Err, Result, sym, ap, ◌∙◌, arith, rules}
+use Rattle.std.proofs.Common.{◌≡◌, [], leb, sum, MatchResult, Ok, Err, Result, sym, ap, ◌∙◌, arith, rules}
 use Rattle.std.proofs.lemmas.Result.{err_from_is_err_and}
 use Rattle.std.proofs.lemmas.Bool.{leb-true}
 use Rattle.model.specs.Answers.{granted}
@@ -16,34 +16,33 @@ pub returns-in_err-map_err : goal.returns-in_err-map_err
 returns-in_err-map_err g c =
     let p = err_from_is_err_and c.from_residual.result c.from_residual.ensures.1 in
     let e : c.in_err-map_err.field-0.0 ≡ FrameLength = mapped c.check_frame.result c.map_err.result FrameLength _ c.map_err.ensures.cases (λ e k. search rules) _ c.in_err-map_err.was in
-    let bad = sym c.map_err.ensures.variant ∙ ap is_ok c.in_err-map_err.was in
-    rw (p.1, p.2, e) (refused_as _ _ 51 [] (plan_unframed _ _ _ _ (frame_refused c.args.frame _ bad c.check_frame.ensures)))
+    rw (p.1, p.2, e) (refused_as _ _ 51 [] (plan_unframed _ _ _ _ (frame_refused c.args.frame _ _ c.map_err.ensures.variant c.check_frame.ensures _ c.in_err-map_err.was)))
 
 pub returns-then-windows-lt8 : goal.returns-then-windows-lt8
 returns-then-windows-lt8 g c =
-    let framed = frame_good c.args.frame _ (sym c.map_err.ensures.variant ∙ ap is_ok c.in_ok-map_err.was) c.check_frame.ensures in
+    let framed = frame_good c.args.frame _ _ c.map_err.ensures.variant c.check_frame.ensures _ c.in_ok-map_err.was in
     refused_as _ _ 63 [] (plan_short _ _ _ _ framed c.if-windows-lt8.true)
 
 pub invariant_of-framed : goal.invariant_of-framed
 invariant_of-framed g c =
-    let framed = frame_good c.args.frame _ (sym c.map_err.ensures.variant ∙ ap is_ok c.in_ok-map_err.was) c.check_frame.ensures in
+    let framed = frame_good c.args.frame _ _ c.map_err.ensures.variant c.check_frame.ensures _ c.in_ok-map_err.was in
     record { framed = frame_granted c.args.frame (tt, framed) }
 
 pub returns-in_err-shares : goal.returns-in_err-shares
 returns-in_err-shares g c =
-    let framed = frame_good c.args.frame _ (sym c.map_err.ensures.variant ∙ ap is_ok c.in_ok-map_err.was) c.check_frame.ensures in
+    let framed = frame_good c.args.frame _ _ c.map_err.ensures.variant c.check_frame.ensures _ c.in_ok-map_err.was in
     let p = err_from_is_err_and c.from_residual-in_err-shares.result c.from_residual-in_err-shares.ensures.1 in
     rw (p.1, p.2) (refused_as _ _ _ _ (plan_infeasible _ _ _ _ framed c.if-windows-lt8.false _ _ c.in_err-shares.ensures))
 
 pub returns-then-not-fit : goal.returns-then-not-fit
 returns-then-not-fit g c =
-    let framed = frame_good c.args.frame _ (sym c.map_err.ensures.variant ∙ ap is_ok c.in_ok-map_err.was) c.check_frame.ensures in
+    let framed = frame_good c.args.frame _ _ c.map_err.ensures.variant c.check_frame.ensures _ c.in_ok-map_err.was in
     let are = c.in_ok-shares.ensures ∙ ap granted (sym c.deref.ensures.0) in
     refused_as _ _ 62 [] (plan_exceeds _ _ _ _ framed c.if-windows-lt8.false _ are c.if-not-fit.ensures)
 
 pub write-requires : goal.write-requires
 write-requires g c =
-    let framed = frame_good c.args.frame _ (sym c.map_err.ensures.variant ∙ ap is_ok c.in_ok-map_err.was) c.check_frame.ensures in
+    let framed = frame_good c.args.frame _ _ c.map_err.ensures.variant c.check_frame.ensures _ c.in_ok-map_err.was in
     let same : c.deref-2.result.now ≡ c.deref.result.now = c.deref-2.ensures.0 ∙ sym c.deref.ensures.0 in
     record {
       few = c.deref-2.ensures.1;
@@ -53,7 +52,7 @@ write-requires g c =
 
 pub returns : goal.returns
 returns g c =
-    let framed = frame_good c.args.frame _ (sym c.map_err.ensures.variant ∙ ap is_ok c.in_ok-map_err.was) c.check_frame.ensures in
+    let framed = frame_good c.args.frame _ _ c.map_err.ensures.variant c.check_frame.ensures _ c.in_ok-map_err.was in
     let are = c.in_ok-shares.ensures ∙ ap granted (sym c.deref-2.ensures.0) in
     let fits = c.if-not-fit.ensures ∙ ap (λ qs. leb (sum qs) c.args.frame) (c.deref.ensures.0 ∙ sym c.deref-2.ensures.0) in
     granted_as _ _ _ _ _ _ _ _ (draft_within c.args.draft.now) (plan_granted _ _ _ _ framed c.if-windows-lt8.false _ are fits) c.write.ensures.count c.write.ensures.after
