@@ -1,1 +1,1 @@
-mod Partitions
+mod Lines

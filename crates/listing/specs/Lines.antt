@@ -3,32 +3,20 @@ use Rattle.std.specs.Prelude.{◌≡◌, ℕ, List, [], ◌++◌, map, Some, Non
 use Rattle.std.specs.List.{flat_map}
 use Rattle.model.specs.declared.window.Window.{Window as ModelWindow}
 use Rattle.tape.specs.declared.command.Command.{Command}
-use Rattle.tape.specs.declared.command.Command.TheVariants.{Partition, Task, Frame, Window, End}
+use Rattle.tape.specs.declared.command.Command.TheVariants.{Window, End}
 use Rattle.tape.specs.declared.fault.Layer.{Layer}
-use Rattle.tape.specs.declared.fault.Layer.TheVariants.{Tape, Draft, Windows}
 use Rattle.tape.specs.Commands.{commands}
+use Rattle.tape.specs.Text.{printed, layer_name}
 use Rattle.tape.specs.Loading.{Contents, Reading, done, faulty, declined}
-
--- a word and three numbers
-abbrev pub three : List ℕ → ℕ → ℕ → ℕ → List ℕ
-three word a b c = word ++ (decimal a ++ (codes " " ++ (decimal b ++ (codes " " ++ (decimal c ++ codes "\n")))))
 
 -- a line a command; none for the end
 abbrev pub line : Command → List ℕ
-line Partition = codes "partition\n"
-line (Task c t d) = three (codes "task ") c t d
-line (Frame f) = codes "frame " ++ (decimal f ++ codes "\n")
-line (Window w) = three (codes "window ") w.partition w.start w.length
 line End = []
+line c = printed c ++ codes "\n"
 
 -- a line a window
 abbrev pub window_lines : List ModelWindow → List ℕ
 window_lines ws = flat_map line (map Window ws)
-
-abbrev pub layer_name : Layer → List ℕ
-layer_name Tape = codes "tape"
-layer_name Draft = codes "draft"
-layer_name Windows = codes "windows"
 
 -- a number alone
 abbrev pub number_line : ℕ → List ℕ

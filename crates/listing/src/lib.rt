@@ -4,5 +4,5 @@
 mod contents;
 mod line;
 
-pub use contents::{listing, refusal_line, window_lines};
-pub use line::number_line;
+pub use contents::{listing, window_lines};
+pub use line::{number_line, refusal_line};

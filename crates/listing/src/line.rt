@@ -1,39 +1,10 @@
-// Single lines of a listing.
+// The single lines of refusals.
 ghost use Rattle.std.specs.Prelude.{◌≡◌, IfOk, string_bytes};
-ghost use Rattle.listing.specs.Lines.{line, layer_name, number_line, fault_line};
+ghost use Rattle.tape_reader.specs.Loads.{told_fault};
+ghost use Rattle.listing.specs.Lines.{number_line, listed_if};
 
 use std::alloc::{AllocError, Global};
-use tape::{Command, Layer};
-
-// The line of a command; the end has none.
-pub(crate) fn command_line(heap: Global, command: Command) -> Result<String, AllocError>
-    ensures { IfOk result (λ s. string_bytes s ≡ line command) }
-{
-    match command {
-        Command::Partition => String::from_str(heap, "partition\n"),
-        Command::Task {
-            cost,
-            period,
-            deadline,
-        } => format!(in heap; "task {cost} {period} {deadline}\n"),
-        Command::Frame(frame) => format!(in heap; "frame {frame}\n"),
-        Command::Window(window) => {
-            let (partition, start, length) = (window.partition, window.start, window.length);
-            format!(in heap; "window {partition} {start} {length}\n")
-        }
-        Command::End => Ok(String::new(heap)),
-    }
-}
-
-fn layer_name(layer: Layer) -> &'static str
-    ensures { result.now ≡ layer_name layer }
-{
-    match layer {
-        Layer::Tape => "tape",
-        Layer::Draft => "draft",
-        Layer::Windows => "windows",
-    }
-}
+use tape_reader::ReadRefusal;
 
 // The line of a refusal that is a number alone.
 pub fn number_line(heap: Global, number: u8) -> Result<String, AllocError>
@@ -42,15 +13,15 @@ pub fn number_line(heap: Global, number: u8) -> Result<String, AllocError>
     format!(in heap; "refused {number}\n")
 }
 
-// The line of a fault.
-pub(crate) fn fault_line(
-    heap: Global,
-    number: u8,
-    layer: Layer,
-    offset: u16,
-) -> Result<String, AllocError>
-    ensures { IfOk result (λ s. string_bytes s ≡ fault_line number layer offset) }
+// The line of a refusal of the reader; where memory was wanting it is so here too.
+pub fn refusal_line(heap: Global, refusal: ReadRefusal) -> Result<String, AllocError>
+    ensures { IfOk result (λ s. listed_if (told_fault refusal) (string_bytes s)) }
 {
-    let name = layer_name(layer);
-    format!(in heap; "refused {number} {name} {offset}\n")
+    match refusal {
+        ReadRefusal::ShortList => number_line(heap, 76),
+        ReadRefusal::Fault { fault, offset } => {
+            let (number, layer) = fault.placed().ok_or(AllocError)?;
+            format!(in heap; "refused {number} {layer} {offset}\n")
+        }
+    }
 }

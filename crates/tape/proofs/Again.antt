@@ -1,5 +1,5 @@
 -- A tape without fault is the tape of what it holds.
-use Rattle.std.proofs.Common.{◌≡◌, ℕ, zero, suc, ◌+◌, ◌-◌, ◌<◌, ◌≤◌, Bool, true, false, cond, eqb, leb, List, ◌++◌, length, get_or, drop, Some, None, Ok, Err, Option, Result, sym, refl, ap, ◌∙◌, subst, inl, inr, arith}
+use Rattle.std.proofs.Common.{◌≡◌, ℕ, zero, suc, ◌+◌, ◌-◌, ◌<◌, ◌≤◌, Bool, true, false, cond, eqb, leb, List, ◌++◌, length, get_or, drop, Some, None, Ok, Err, Option, Result, sym, refl, ap, ◌∙◌, subst, inl, inr}
 use Rattle.std.proofs.lemmas.List.{get_or-append-add}
 use Rattle.std.proofs.lemmas.Bool.{cond_both, cond-true, cond-false, cases_Bool, eqb-true, leb-true}
 use Rattle.model.specs.Answers.{granted}
@@ -24,7 +24,7 @@ module _ (xs : List ℕ) (fits : Bytes xs) (c : Command) (rest : List ℕ) where
       let Read : Type 0 = Command × List ℕ in
       let t : ◌≡◌ {A = Read} (d, drop n xs) (c, rest) = cc in
       there (leb-true n (length xs) l) ∙ ap (λ p. bytes p.0 ++ p.1) t)
-      (λ l e. let z : ◌≡◌ {A = ℕ} 0 1 = cc in absurd (omega arith))
+      (λ l e. absurd cc)
 
   operands_there : operands xs ≡ Ok (c, rest) → xs ≡ bytes c ++ rest
   operands_there =
@@ -35,17 +35,17 @@ module _ (xs : List ℕ) (fits : Bytes xs) (c : Command) (rest : List ℕ) where
       (λ _. cond_both (eqb first 0x46) _ _ P (λ e. whole_there 3 (Frame (word_at xs 1)) (λ h. frame_there xs h (eqb-true first 0x46 e) (fits 2)))
       (λ _. cond_both (eqb first 0x57) _ _ P (λ e. whole_there 6 _ (λ h. window_there xs h (eqb-true first 0x57 e) (fits 3) (fits 5)))
       (λ _. cond_both (eqb first 0x45) _ _ P (λ e. whole_there 1 End (λ h. byte_there xs 0x45 h (eqb-true first 0x45 e)))
-      (λ _ e. let z : ◌≡◌ {A = ℕ} 0 1 = cc in absurd (omega arith))))))
+      (λ _ e. absurd cc)))))
 
   in_turn_there : (a : Option Bool) → in_turn a (operands xs) ≡ Ok (c, rest) → operands xs ≡ Ok (c, rest)
-  in_turn_there None e = let z : ◌≡◌ {A = ℕ} 0 1 = cc in absurd (omega arith)
-  in_turn_there (Some false) e = let z : ◌≡◌ {A = ℕ} 0 1 = cc in absurd (omega arith)
+  in_turn_there None e = absurd cc
+  in_turn_there (Some false) e = absurd cc
   in_turn_there (Some true) e = e
 
   pub command_bytes : (t : Turn) → command t xs ≡ Ok (c, rest) → xs ≡ bytes c ++ rest
   command_bytes t =
       cond_both (eqb (length xs) 0) _ _ (λ r. r ≡ Ok (c, rest) → xs ≡ bytes c ++ rest)
-      (λ l e. let z : ◌≡◌ {A = ℕ} 0 1 = cc in absurd (omega arith))
+      (λ l e. absurd cc)
       (λ l e. operands_there (in_turn_there (admits t (get_or xs 0 0)) e))
 
   pub bytes_after : xs ≡ bytes c ++ rest → Bytes rest
@@ -70,10 +70,10 @@ module _ (tape : List ℕ) (t : Contents) where
           let same : contents then ≡ t = cc in
           let again = standing_again tape l xs at c rest then front r end (eqb-true (length rest) 0 none) in
           subst (λ t. (list_answer overlap t.frame t.windows ≡ granted tt) × (encode t.partitions t.frame t.windows ≡ tape)) same (again.2, again.0))
-          (λ some e. let z : ◌≡◌ {A = ℕ} 0 1 = cc in absurd (omega arith))
+          (λ some e. absurd cc)
 
     by_next : (most : ℕ) → ((then : Progress) (rest : List ℕ) → Standing tape then rest → Bytes rest → decode_from most (length tape) then rest ≡ done t → Holds) → (r : Result (Command × List ℕ × Progress) Breach) → next l xs ≡ r → after_next (length tape - length xs) r (λ c rest then. cond (is_end c) (ended (length tape) then rest) (decode_from most (length tape) then rest)) ≡ done t → Holds
-    by_next most go (Err e) q d = let z : ◌≡◌ {A = ℕ} 0 1 = cc in absurd (omega arith)
+    by_next most go (Err e) q d = absurd cc
     by_next most go (Ok p) q d =
         let c = p.0 in
         let rest = p.1 in
@@ -84,7 +84,7 @@ module _ (tape : List ℕ) (t : Contents) where
         ]
 
   again_from : (most : ℕ) (l : Progress) (xs : List ℕ) → Standing tape l xs → Bytes xs → decode_from most (length tape) l xs ≡ done t → Holds
-  again_from zero l xs at fits d = let z : ◌≡◌ {A = ℕ} 0 1 = cc in absurd (omega arith)
+  again_from zero l xs at fits d = absurd cc
   again_from (suc most) l xs at fits d = by_next l xs at fits most (again_from most) (next l xs) refl d
 
 pub writes_again : WritesAgain

@@ -42,7 +42,7 @@ command_there t c more =
 
 in_turn_true : (b : Bool) (c d : Command) (xs ys : List ℕ) → in_turn (Some b) (Ok (c, xs)) ≡ Ok (d, ys) → b ≡ true
 in_turn_true true c d xs ys e = refl
-in_turn_true false c d xs ys e = let z : ◌≡◌ {A = ℕ} 0 1 = cc in absurd (omega arith)
+in_turn_true false c d xs ys e = absurd cc
 
 -- a command that was read was in its turn
 pub follows_read : (t : Turn) (c : Command) (rest xs : List ℕ) → xs ≡ bytes c ++ rest → command t xs ≡ Ok (c, rest) → follows t c ≡ true

@@ -71,7 +71,7 @@ module _ (tape : List ℕ) (n : ℕ) (vs : List ℕ) (y : Layer) (o : ℕ) where
       at_end : is_end c ≡ true → ended (length tape) then rest ≡ faulty n vs y o → Found
       at_end end =
           cond_both (eqb (length rest) 0) _ _ (λ d. d ≡ faulty n vs y o → Found)
-          (λ none d. let z : ◌≡◌ {A = ℕ} 0 1 = cc in absurd (omega arith))
+          (λ none d. absurd cc)
           (λ some d. trailing end (eqb-false (length rest) 0 some) d)
 
       -- one command more was obeyed

@@ -1,7 +1,9 @@
 -- How long tapes are: at most 1,292 bytes.
-use Rattle.std.proofs.Common.{◌≡◌, ℕ, ◌+◌, ◌*◌, ◌≤◌, true, leb, List, [], ◌∷◌, ◌++◌, map, length, refl, ap, ◌∙◌, arith}
+use Rattle.std.proofs.Common.{◌≡◌, ℕ, ◌+◌, ◌*◌, ◌≤◌, true, leb, List, [], ◌∷◌, ◌++◌, map, length, sum_by, refl, ap, ◌∙◌, arith}
 use Rattle.std.proofs.lemmas.List.{length-append}
+use Rattle.std.proofs.lemmas.List.Sums.{sum_by-cons}
 use Rattle.std.proofs.lemmas.Bool.{and_parts, leb-true}
+use Rattle.std.proofs.lemmas.List.Concat.{flat_map-append}
 use Rattle.std.specs.List.{flat_map}
 use Rattle.model.specs.declared.task.Task.{Task as ModelTask}
 use Rattle.model.specs.declared.window.Window.{Window as ModelWindow}
@@ -11,13 +13,14 @@ use Rattle.tape.specs.declared.command.Turn.{Turn}
 use Rattle.tape.specs.declared.command.Turn.TheVariants.{Start, AfterPartition, AfterTask, AfterFrame}
 use Rattle.tape.specs.Commands.{bytes, task_command, partition_commands, encode}
 use Rattle.tape.specs.Loading.{Progress}
-use Rattle.tape.proofs.Lists.{joined_append}
 use Rattle.tape.proofs.SoFar.{framed, so_far}
 
 -- the bytes of the partitions: one for each, and seven for each task
 abbrev pub partitions_size : Module → ℕ
-partitions_size [] = 0
-partitions_size (ks ∷ m) = 1 + 7 * length ks + partitions_size m
+partitions_size m = sum_by (λ ks. 1 + 7 * length ks) m
+
+one_more : (ks : List ModelTask) (m : Module) → partitions_size (ks ∷ m) ≡ 1 + 7 * length ks + partitions_size m
+one_more ks m = sum_by-cons (λ ks. 1 + 7 * length ks) ks m
 
 tasks_length : (ks : List ModelTask) → length (flat_map bytes (map task_command ks)) ≡ 7 * length ks
 tasks_length [] = refl
@@ -29,9 +32,9 @@ partition_length ks = let e = tasks_length ks in omega arith
 pub partitions_length : (m : Module) → length (flat_map bytes (flat_map partition_commands m)) ≡ partitions_size m
 partitions_length [] = refl
 partitions_length (ks ∷ m) =
-    ap length (joined_append bytes (partition_commands ks) (flat_map partition_commands m))
+    ap length (flat_map-append bytes (partition_commands ks) (flat_map partition_commands m))
     ∙ (length-append (flat_map bytes (partition_commands ks)) (flat_map bytes (flat_map partition_commands m))
-    ∙ omega (arith, partition_length ks, partitions_length m))
+    ∙ omega (arith, partition_length ks, partitions_length m, one_more ks m))
 
 pub windows_length : (ws : List ModelWindow) → length (flat_map bytes (map Window ws)) ≡ 6 * length ws
 windows_length [] = refl
@@ -39,8 +42,8 @@ windows_length (w ∷ ws) = let e = windows_length ws in omega arith
 
 pub encode_length : (m : Module) (f : ℕ) (ws : List ModelWindow) → length (encode m f ws) ≡ partitions_size m + (3 + (6 * length ws + 1))
 encode_length m f ws =
-    let a = joined_append bytes (flat_map partition_commands m) (Frame f ∷ (map Window ws ++ (End ∷ []))) in
-    let b = joined_append bytes (map Window ws) (End ∷ []) in
+    let a = flat_map-append bytes (flat_map partition_commands m) (Frame f ∷ (map Window ws ++ (End ∷ []))) in
+    let b = flat_map-append bytes (map Window ws) (End ∷ []) in
     let c = length-append (flat_map bytes (map Window ws)) (0x45 ∷ []) in
     ap length a
     ∙ (length-append (flat_map bytes (flat_map partition_commands m)) (flat_map bytes (Frame f ∷ (map Window ws ++ (End ∷ []))))
@@ -51,7 +54,7 @@ partitions_short [] p = omega arith
 partitions_short (ks ∷ m) p =
     let both = and_parts (partition_within ks) (partitions_within m) p in
     let l = leb-true (length ks) 16 (and_parts (leb (length ks) 16) (all_within ks) both.0).0 in
-    omega (arith, partitions_short m both.1, l)
+    omega (arith, partitions_short m both.1, l, one_more ks m)
 
 framed_short : (t : Turn) (f : ℕ) (ws : List ModelWindow) → length (flat_map bytes (framed t f ws)) ≤ 3 + 6 * length ws
 framed_short Start f ws = omega arith
@@ -71,6 +74,6 @@ encode_short m f ws w h = omega (arith, encode_length m f ws, module_short m w)
 -- what has been read before the end is shorter
 pub so_far_short : (l : Progress) → module_within l.partitions ≡ true → length l.windows ≤ 64 → length (flat_map bytes (so_far l)) ≤ 1291
 so_far_short l w h =
-    let a = joined_append bytes (flat_map partition_commands l.partitions) (framed l.turn l.frame l.windows) in
+    let a = flat_map-append bytes (flat_map partition_commands l.partitions) (framed l.turn l.frame l.windows) in
     let b = length-append (flat_map bytes (flat_map partition_commands l.partitions)) (flat_map bytes (framed l.turn l.frame l.windows)) in
     omega (arith, ap length a, b, partitions_length l.partitions, module_short l.partitions w, framed_short l.turn l.frame l.windows)

@@ -1,7 +1,8 @@
 -- One command after another: what is left of a tape decides what it gives.
 use Rattle.std.proofs.Common.{◌≡◌, ℕ, zero, suc, ◌-◌, ◌<◌, ◌≤◌, true, false, cond, eqb, leb, List, [], ◌∷◌, ◌++◌, length, get_or, None, Ok, Err, Result, sym, refl, ap, ◌∙◌, subst, arith}
-use Rattle.std.proofs.lemmas.List.{append_assoc, append-nil, length-append}
+use Rattle.std.proofs.lemmas.List.{append_assoc, append-nil, length-append, nil_from_length}
 use Rattle.std.proofs.lemmas.Bool.{cond-true, cond-false, eq-eqb, le-leb, false≢true}
+use Rattle.std.proofs.lemmas.List.Concat.{flat_map-append}
 use Rattle.std.specs.List.{flat_map}
 use Rattle.model.specs.declared.window.Window.{Window as ModelWindow}
 use Rattle.model.specs.Answers.{granted}
@@ -19,7 +20,6 @@ use Rattle.windows.proofs.Lists.{list_by_windows}
 use Rattle.tape.specs.FirstFault.{follows}
 use Rattle.tape.proofs.Commands.{follows_read}
 use Rattle.tape.proofs.Lengths.{so_far_short}
-use Rattle.tape.proofs.Lists.{joined_append}
 use Rattle.tape.proofs.SoFar.{framed, the_frame, so_far, Orderly, Accepted, accepted_so_far, obeyed_adds}
 
 -- A command that was read and obeyed was read, and was obeyed.
@@ -32,14 +32,14 @@ obeyed_part c d xs ys then (Ok l) e =
     let Read : Type 0 = Command × List ℕ × Progress in
     let t : ◌≡◌ {A = Read} (c, xs, l) (d, ys, then) = cc in
     (ap (λ p. p.0) t, ap (λ p. p.1) t, ap (λ p. Ok p.2) t)
-obeyed_part c d xs ys then (Err f) e = let z : ◌≡◌ {A = ℕ} 0 1 = cc in absurd (omega arith)
+obeyed_part c d xs ys then (Err f) e = absurd cc
 
 parts : (l : Progress) (c : Command) (rest : List ℕ) (then : Progress) (r : Result (Command × List ℕ) ℕ) → after_bytes l r ≡ Ok (c, rest, then) → Parts l c rest then r
 unfolding Parts
 parts l c rest then (Ok p) e =
     let s = obeyed_part p.0 c p.1 rest then (obeyed l p.0) e in
     (ap (λ d. Ok (d, p.1)) s.0 ∙ ap (λ ys. Ok (c, ys)) s.1, ap (obeyed l) (sym s.0) ∙ s.2)
-parts l c rest then (Err k) e = let z : ◌≡◌ {A = ℕ} 0 1 = cc in absurd (omega arith)
+parts l c rest then (Err k) e = absurd cc
 
 module _ (l : Progress) (xs : List ℕ) (c : Command) (rest : List ℕ) (then : Progress) (r : next l xs ≡ Ok (c, rest, then)) where
   pub next_read : command l.turn xs ≡ Ok (c, rest)
@@ -85,7 +85,7 @@ pub standing_start : (tape : List ℕ) → Standing tape nothing_read tape
 standing_start tape = record { split = refl; orderly = refl; few = omega arith; accepted = tt; decides = (length tape, omega arith, refl) }
 
 one_more_byte : (cs : List Command) (c : Command) (more : List ℕ) → flat_map bytes (cs ++ (c ∷ [])) ++ more ≡ flat_map bytes cs ++ (bytes c ++ more)
-one_more_byte cs c more = simp (joined_append, append-nil, append_assoc)
+one_more_byte cs c more = simp (flat_map-append, append-nil, append_assoc)
 
 pub the_end : (c : Command) → is_end c ≡ true → c ≡ End
 the_end Partition e = absurd (false≢true e)
@@ -100,10 +100,6 @@ no_end (Task c t d) n = refl
 no_end (Frame f) n = refl
 no_end (Window w) n = refl
 no_end End n = absurd (n refl)
-
-none_left : (xs : List ℕ) → length xs ≡ 0 → xs ≡ []
-none_left [] e = refl
-none_left (x ∷ xs) e = absurd (omega arith)
 
 list_accepted : (f : ℕ) (ws : List ModelWindow) → length ws ≤ 64 → (frame_answer f ≡ granted tt) × (windows_answer overlap f 0 None ws ≡ granted tt) → list_answer overlap f ws ≡ granted tt
 list_accepted f ws h a =
@@ -154,7 +150,7 @@ module _ (tape : List ℕ) (l : Progress) (xs : List ℕ) (at : Standing tape l 
         let o : Ok l ≡ Ok then = ap (obeyed l) (sym i) ∙ next_obeyed l xs c rest then r in
         let s : l ≡ then = cc in
         let t : tape ≡ encode l.partitions l.frame l.windows =
-        at.split ∙ (ap (λ ys. flat_map bytes (so_far l) ++ ys) (e ∙ (ap (λ c. bytes c ++ rest) i ∙ ap (λ ys. 0x45 ∷ ys) (none_left rest none)))
+        at.split ∙ (ap (λ ys. flat_map bytes (so_far l) ++ ys) (e ∙ (ap (λ c. bytes c ++ rest) i ∙ ap (λ ys. 0x45 ∷ ys) (nil_from_length rest none)))
         ∙ (sym (one_more_byte (so_far l) End []) ∙ (append-nil (flat_map bytes (so_far l ++ (End ∷ []))) ∙ ap (flat_map bytes) (sym (all_commands l.partitions l.frame l.windows l.turn f)))))
         in
         let list = list_accepted l.frame l.windows at.few (accepted_so_far l.turn l.frame l.windows f at.accepted) in

@@ -2,6 +2,7 @@
 use Rattle.std.proofs.Common.{◌≡◌, ℕ, suc, ◌+◌, ◌-◌, ◌≤◌, true, cond, leb, List, [], ◌∷◌, ◌++◌, map, length, Some, None, Ok, sym, refl, ap, ◌∙◌, zero-add, arith}
 use Rattle.std.proofs.lemmas.List.{append_assoc, length-append}
 use Rattle.std.proofs.lemmas.Bool.{and_parts, cond-false, leb-true}
+use Rattle.std.proofs.lemmas.List.Concat.{flat_map-append}
 use Rattle.std.specs.List.{flat_map}
 use Rattle.model.specs.declared.window.Window.{Window as ModelWindow}
 use Rattle.model.specs.Answers.{granted, and_then}
@@ -19,7 +20,6 @@ use Rattle.windows.proofs.Lists.{both_granted}
 use Rattle.tape.specs.FirstFault.{follows, Plays}
 use Rattle.tape.proofs.Commands.{command_there}
 use Rattle.tape.proofs.Lengths.{encode_short}
-use Rattle.tape.proofs.Lists.{joined_append}
 use Rattle.tape.proofs.Plays.{plays_append, reads, granted_ok, after_partitions, still_before_all, partitions_play, windows_play}
 use Rattle.tape.proofs.Reading.{bytes_some}
 use Rattle.tape.proofs.SoFar.{count_kept}
@@ -78,7 +78,7 @@ module _ (m : Module) (f : ℕ) (ws : List ModelWindow) (within : module_within 
   encode_parts : encode m f ws ≡ flat_map bytes before_end ++ (0x45 ∷ [])
   unfolding before_end
   encode_parts =
-      ap (flat_map bytes) (sym (append_assoc (flat_map partition_commands m) (Frame f ∷ map Window ws) (End ∷ []))) ∙ joined_append bytes before_end (End ∷ [])
+      ap (flat_map bytes) (sym (append_assoc (flat_map partition_commands m) (Frame f ∷ map Window ws) (End ∷ []))) ∙ flat_map-append bytes before_end (End ∷ [])
 
   pub reads_back_as : decode (encode m f ws) ≡ done (record { partitions = m; frame = f; windows = ws })
   reads_back_as =

@@ -2,6 +2,7 @@
 use Rattle.std.proofs.Common.{◌≡◌, ℕ, ◌+◌, ◌-◌, ◌<◌, ◌≤◌, true, false, leb, List, [], ◌∷◌, ◌++◌, map, length, set, Some, None, Ok, sym, refl, ap, ◌∙◌, subst, inl, inr, zero-add, arith}
 use Rattle.std.proofs.lemmas.List.{append_assoc, append-nil, length-append, length-set, map_push, set_at, get_or_at}
 use Rattle.std.proofs.lemmas.Bool.{cond-false, leb-true, cases_Bool, false≢true, true≢false}
+use Rattle.std.proofs.lemmas.List.Concat.{flat_map-append}
 use Rattle.std.specs.List.{flat_map, slice_get}
 use Rattle.model.specs.declared.task.Task.{Task as ModelTask}
 use Rattle.model.specs.declared.window.Window.{Window as ModelWindow}
@@ -19,7 +20,7 @@ use Rattle.tape.specs.Decode.{before_frame, in_partition, after_frame}
 use Rattle.tape.specs.Loading.{Progress, newest, last_of, in_layer, obeyed, is_end}
 use Rattle.windows.proofs.Lists.{both_granted, last_or, windows_one_more}
 use Rattle.tape.specs.FirstFault.{follows}
-use Rattle.tape.proofs.Lists.{joined_append, split_last}
+use Rattle.tape.proofs.Lists.{split_last}
 
 -- the frame and the windows, once the frame is given
 abbrev pub framed : Turn → ℕ → List ModelWindow → List Command
@@ -79,7 +80,7 @@ the_frame AfterFrame f ws a = refl
 
 layer_ok : {A : Type 0} (y : Layer) (a : Answer A) (x then : Progress) → in_layer y a x ≡ Ok then → ((v : A) × (a ≡ granted v)) × (x ≡ then)
 layer_ok y (granted v) x then e = ((v, refl), cc)
-layer_ok y (refused n vs) x then e = let z : ◌≡◌ {A = ℕ} 0 1 = cc in absurd (omega arith)
+layer_ok y (refused n vs) x then e = absurd cc
 
 -- a task goes to the newest partition
 pub with_newest : (m : Module) (ks : List ModelTask) (k : ModelTask) → with_task (m ++ (ks ∷ [])) (newest (m ++ (ks ∷ []))) k ≡ m ++ ((ks ++ (k ∷ [])) ∷ [])
@@ -89,7 +90,7 @@ with_newest m ks k =
     ∙ set_at m ks [] (ks ++ (k ∷ [])) (newest (m ++ (ks ∷ []))) n
 
 on_last : (m : Module) (ks : List ModelTask) (k : ModelTask) → flat_map partition_commands (m ++ ((ks ++ (k ∷ [])) ∷ [])) ≡ flat_map partition_commands (m ++ (ks ∷ [])) ++ (task_command k ∷ [])
-on_last m ks k = simp (joined_append, append-nil, map_push, append_assoc)
+on_last m ks k = simp (flat_map-append, append-nil, map_push, append_assoc)
 
 commands_newest : (m : Module) (k : ModelTask) → 0 < length m → flat_map partition_commands (with_task m (newest m) k) ≡ flat_map partition_commands m ++ (task_command k ∷ [])
 commands_newest [] k h = absurd (omega arith)
@@ -101,7 +102,7 @@ commands_newest (x ∷ xs) k h =
 -- What a command adds, by the parts of what is read.
 module _ (m : Module) (f : ℕ) (ws : List ModelWindow) (t : Turn) (o : Orderly t m ws) where
   adds_partition : before_frame t ≡ true → flat_map partition_commands (with_partition m) ++ [] ≡ (flat_map partition_commands m ++ framed t f ws) ++ (Partition ∷ [])
-  adds_partition b = rw (no_windows t m f ws b o).0 (simp (joined_append, append-nil))
+  adds_partition b = rw (no_windows t m f ws b o).0 (simp (flat_map-append, append-nil))
 
   adds_task : (k : ModelTask) → in_partition t ≡ true → flat_map partition_commands (with_task m (newest m) k) ++ [] ≡ (flat_map partition_commands m ++ framed t f ws) ++ (task_command k ∷ [])
   adds_task k i =

@@ -4,3 +4,4 @@ pub mod Faults
 pub mod FirstFault
 pub mod Loading
 pub mod RoundTrip
+pub mod Text

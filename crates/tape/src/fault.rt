@@ -5,6 +5,7 @@ ghost use Rattle.tape.specs.Faults.{tape_number, from_draft, breach, placed};
 
 use draft::DraftRefusal;
 use std::alloc::AllocFailed;
+use std::fmt;
 use windows::WindowRefusal;
 
 // Whose rule a fault breaks.
@@ -15,13 +16,29 @@ pub enum Layer {
     Windows,
 }
 
+impl fmt::Display for Layer {
+    ghost use Rattle.std.specs.Prelude.{Some};
+    ghost use Rattle.tape.specs.Text.{layer_name};
+
+    ghost output = { λ y. Some (layer_name y) };
+
+    fn fmt<W: fmt::Write>(&self, f: &mut fmt::Formatter<W>) -> fmt::Result {
+        let name = match self {
+            Layer::Tape => "tape",
+            Layer::Draft => "draft",
+            Layer::Windows => "windows",
+        };
+        write!(f, "{name}")
+    }
+}
+
 // What is wrong with a tape as such, whatever module it carries.
 #[derive(Clone, Copy, PartialEq, Eq, Debug)]
 pub enum TapeFault {
-    Truncated,
-    UnknownCommand,
-    OutOfTurn,
-    TrailingBytes,
+    Truncated = 71,
+    UnknownCommand = 72,
+    OutOfTurn = 73,
+    TrailingBytes = 74,
 }
 
 impl TapeFault {
@@ -29,12 +46,7 @@ impl TapeFault {
     pub fn number(self) -> u8
         ensures { result ≡ tape_number self }
     {
-        match self {
-            TapeFault::Truncated => 71,
-            TapeFault::UnknownCommand => 72,
-            TapeFault::OutOfTurn => 73,
-            TapeFault::TrailingBytes => 74,
-        }
+        self as u8
     }
 }
 
@@ -54,10 +66,9 @@ impl CommandFault {
     {
         match self {
             CommandFault::Tape(fault) => Some((fault.number(), Layer::Tape)),
-            CommandFault::Draft(refusal) => match refusal.number() {
-                Some(number) => Some((number, Layer::Draft)),
-                None => None,
-            },
+            CommandFault::Draft(refusal) => {
+                refusal.number().map(|number| (number, Layer::Draft))
+            }
             CommandFault::Windows(refusal) => Some((refusal.number(), Layer::Windows)),
             CommandFault::NoMemory => None,
         }

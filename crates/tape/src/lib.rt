@@ -2,11 +2,9 @@
 #![tactic(auto)]
 
 mod command;
-mod commanded;
 mod fault;
 mod theorems;
 
 pub use command::{Command, Turn, next_command};
-pub use commanded::Commanded;
 pub use fault::{CommandFault, Layer, TapeFault};
 pub use theorems::{first_fault_stands, round_trip_stands};

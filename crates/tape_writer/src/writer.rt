@@ -1,17 +1,16 @@
 // The writer: a draft, its frame and its windows onto a tape, or a refusal, and then the buffer has not changed.
-ghost use Rattle.std.specs.Prelude.{◌≡◌, ℕ, ◌/◌, ◌%◌, ◌≤◌, ◌++◌, map, length, take, drop, IfOk};
-ghost use Rattle.std.specs.List.{flat_map};
-ghost use Rattle.tape.specs.declared.command.Command.{Command};
+ghost use Rattle.std.specs.Prelude.{◌≡◌, ℕ, ◌≤◌, ◌++◌, length, take, drop, IfOk};
 ghost use Rattle.tape_writer.specs.declared.writer.WriteRefusal.TheVariants.{Windows};
 ghost use Rattle.model.specs.Answers.{leaves};
 ghost use Rattle.draft.specs.Drafts.{module_of};
-ghost use Rattle.tape.specs.Commands.{bytes, partition_bytes, windows_bytes, encode};
+ghost use Rattle.tape.specs.Commands.{word, bytes, partition_bytes, encode};
 ghost use Rattle.tape.specs.Loading.{decode, done};
+ghost use Rattle.tape_writer.specs.Cursors.{Room, Puts};
 ghost use Rattle.tape_writer.specs.Writing.{write_number, told_write, write_answer};
 
 use draft::Draft;
 use model::{Task, Window};
-use tape::{Command, Commanded};
+use tape::Command;
 use windows::{WindowRefusal, check_list};
 
 // Why a tape was not written.
@@ -41,96 +40,84 @@ impl From<WindowRefusal> for WriteRefusal {
     }
 }
 
-// Writes some bytes at the front, and answers how many.
-fn copy(some: &[u8], out: &mut [u8]) -> usize
-    requires { length some.now ≤ length out.old }
-    ensures count { result ≡ length some.now }
-    ensures after { out.new ≡ some.now ++ drop (length some.now) out.old }
-{
-    let count = some.len();
-    out[0..count].copy_from_slice(some);
-    count
+// A buffer, and the place of the next byte.
+#[derive(Drop)]
+struct Cursor<'a> {
+    buffer: &'a mut [u8],
+    at: usize,
 }
 
-fn high(number: u16) -> u8
-    ensures { result ≡ number / 256 }
-{
-    (number / 256) as u8
-}
-
-fn low(number: u16) -> u8
-    ensures { result ≡ number % 256 }
-{
-    (number % 256) as u8
-}
-
-fn task_bytes(cost: u16, period: u16, deadline: u16) -> [u8; 7]
-    ensures { result ≡ bytes (Command.Task cost period deadline) }
-{
-    let (c, t, d) = (cost, period, deadline);
-    [0x54, high(c), low(c), high(t), low(t), high(d), low(d)]
-}
-
-fn window_bytes(window: Window) -> [u8; 6]
-    ensures { result ≡ bytes (Command.Window window) }
-{
-    let (p, s, l) = (window.partition, window.start, window.length);
-    [0x57, p, high(s), low(s), high(l), low(l)]
-}
-
-// Writes a command at the front, and answers how many bytes it has.
-fn put(command: Command, out: &mut [u8]) -> usize
-    requires { length (bytes command) ≤ length out.old }
-    ensures count { result ≡ length (bytes command) }
-    ensures after { out.new ≡ bytes command ++ drop result out.old }
-{
-    match command {
-        Command::Partition => copy(&[0x50], out),
-        Command::Task {
-            cost,
-            period,
-            deadline,
-        } => copy(&task_bytes(cost, period, deadline), out),
-        Command::Frame(frame) => copy(&[0x46, high(frame), low(frame)], out),
-        Command::Window(window) => copy(&window_bytes(window), out),
-        Command::End => copy(&[0x45], out),
+impl Cursor<'_> {
+    fn put(&mut self, bytes: &[u8])
+        requires { Room bytes.now self.old }
+        ensures { Puts bytes.now self.old self.new }
+    {
+        let end = self.at + bytes.len();
+        self.buffer[self.at..end].copy_from_slice(bytes);
+        self.at = end;
     }
-}
 
-// Writes the commands of some items at the front, and answers how many bytes they have.
-fn put_all<T: Commanded>(items: &[T], out: &mut [u8]) -> usize
-    requires { length (flat_map bytes (map T.Commanded.commanded items.now)) ≤ length out.old }
-    ensures count { result ≡ length (flat_map bytes (map T.Commanded.commanded items.now)) }
-    ensures after { out.new ≡ flat_map bytes (map T.Commanded.commanded items.now) ++ drop result out.old }
-{
-    let mut at = 0;
-    for item in items {
-        at += put(item.command(), &mut out[at..]);
+    fn put_word(&mut self, number: u16)
+        requires { Room (word number) self.old }
+        ensures { Puts (word number) self.old self.new }
+    {
+        self.put(&number.to_be_bytes());
     }
-    at
-}
 
-// A partition with its tasks.
-fn put_partition(tasks: &[Task], out: &mut [u8]) -> usize
-    requires { length (partition_bytes tasks.now) ≤ length out.old }
-    ensures count { result ≡ length (partition_bytes tasks.now) }
-    ensures after { out.new ≡ partition_bytes tasks.now ++ drop result out.old }
-{
-    let at = put(Command::Partition, out);
-    at + put_all(tasks, &mut out[at..])
-}
-
-// All partitions.
-fn put_partitions(draft: &Draft, out: &mut [u8]) -> usize
-    requires { length (flat_map partition_bytes (module_of draft.now)) ≤ length out.old }
-    ensures count { result ≡ length (flat_map partition_bytes (module_of draft.now)) }
-    ensures after { out.new ≡ flat_map partition_bytes (module_of draft.now) ++ drop result out.old }
-{
-    let mut at = 0;
-    for partition in 0..draft.partition_count() {
-        at += put_partition(draft.tasks(partition), &mut out[at..]);
+    fn put_command(&mut self, command: Command)
+        requires { Room (bytes command) self.old }
+        ensures { Puts (bytes command) self.old self.new }
+    {
+        match command {
+            Command::Partition => self.put(&[0x50]),
+            Command::Task {
+                cost,
+                period,
+                deadline,
+            } => {
+                self.put(&[0x54]);
+                self.put_word(cost);
+                self.put_word(period);
+                self.put_word(deadline);
+            }
+            Command::Frame(frame) => {
+                self.put(&[0x46]);
+                self.put_word(frame);
+            }
+            Command::Window(window) => {
+                self.put(&[0x57, window.partition]);
+                self.put_word(window.start);
+                self.put_word(window.length);
+            }
+            Command::End => self.put(&[0x45]),
+        }
     }
-    at
+
+    // A partition with its tasks.
+    fn put_partition(&mut self, tasks: &[Task])
+        requires { Room (partition_bytes tasks.now) self.old }
+        ensures { Puts (partition_bytes tasks.now) self.old self.new }
+    {
+        self.put_command(Command::Partition);
+        for task in tasks {
+            self.put_command(Command::from(*task));
+        }
+    }
+
+    // The whole tape.
+    fn put_tape(&mut self, draft: &Draft, frame: u16, windows: &[Window])
+        requires { Room (encode (module_of draft.now) frame windows.now) self.old }
+        ensures { Puts (encode (module_of draft.now) frame windows.now) self.old self.new }
+    {
+        for partition in draft.partitions() {
+            self.put_partition(partition.tasks());
+        }
+        self.put_command(Command::Frame(frame));
+        for window in windows {
+            self.put_command(Command::Window(*window));
+        }
+        self.put_command(Command::End);
+    }
 }
 
 // How many bytes the tape has.
@@ -138,41 +125,12 @@ fn tape_length(draft: &Draft, windows: &[Window]) -> usize
     requires { length windows.now ≤ 64 }
     ensures { (f : ℕ) → result ≡ length (encode (module_of draft.now) f windows.now) }
 {
-    let mut partitions = 0;
-    for partition in 0..draft.partition_count() {
-        partitions += 1 + 7 * draft.tasks(partition).len();
-    }
+    let partitions: usize = draft
+        .partitions()
+        .iter()
+        .map(|partition| 1 + 7 * partition.tasks().len())
+        .sum();
     partitions + (3 + (6 * windows.len() + 1))
-}
-
-// The windows and the end.
-fn put_windows(windows: &[Window], out: &mut [u8]) -> usize
-    requires { length (windows_bytes windows.now) ≤ length out.old }
-    ensures count { result ≡ length (windows_bytes windows.now) }
-    ensures after { out.new ≡ windows_bytes windows.now ++ drop result out.old }
-{
-    let at = put_all(windows, out);
-    at + put(Command::End, &mut out[at..])
-}
-
-// The frame, the windows and the end.
-fn put_frame(frame: u16, windows: &[Window], out: &mut [u8]) -> usize
-    requires { length (bytes (Command.Frame frame) ++ windows_bytes windows.now) ≤ length out.old }
-    ensures count { result ≡ length (bytes (Command.Frame frame) ++ windows_bytes windows.now) }
-    ensures after { out.new ≡ (bytes (Command.Frame frame) ++ windows_bytes windows.now) ++ drop result out.old }
-{
-    let at = put(Command::Frame(frame), out);
-    at + put_windows(windows, &mut out[at..])
-}
-
-// The whole tape.
-fn put_tape(draft: &Draft, frame: u16, windows: &[Window], out: &mut [u8]) -> usize
-    requires { length (encode (module_of draft.now) frame windows.now) ≤ length out.old }
-    ensures count { result ≡ length (encode (module_of draft.now) frame windows.now) }
-    ensures after { out.new ≡ encode (module_of draft.now) frame windows.now ++ drop result out.old }
-{
-    let at = put_partitions(draft, out);
-    at + put_frame(frame, windows, &mut out[at..])
 }
 
 // Writes the tape of a draft with its frame and windows, and answers how many bytes it has; later bytes are unchanged.
@@ -191,5 +149,7 @@ pub fn write(
     if buffer.len() < tape_length(draft, windows) {
         return Err(WriteRefusal::ShortBuffer);
     }
-    Ok(put_tape(draft, frame, windows, buffer) as u16)
+    let mut cursor = Cursor { buffer, at: 0 };
+    cursor.put_tape(draft, frame, windows);
+    Ok(cursor.at as u16)
 }

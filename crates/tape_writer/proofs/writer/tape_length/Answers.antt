@@ -1,30 +1,30 @@
-use Rattle.std.proofs.Common.{[], length, ap, arith}
-use Rattle.std.proofs.lemmas.List.{at_drop_more, at_drop_all}
-use Rattle.draft.specs.Drafts.{module_of}
-use Rattle.draft.proofs.Modules.{draft_within}
-use Rattle.tape.proofs.Lengths.{partitions_size, module_short, encode_length}
+use Rattle.std.proofs.Common.{◌≡◌, ◌≤◌, ◌+◌, ◌*◌, ◌^◌, sum_by, length, ap, arith, rules}
+use Rattle.std.proofs.iter.runs.Made.{chains}
+use Rattle.std.proofs.lemmas.List.{length-map}
+use Rattle.std.proofs.lemmas.Iterator.{YieldsList-from_slice}
+use Rattle.std.proofs.lemmas.Iterator.Adapters.{fits_from_length, at_most_from_yields_List}
+use Rattle.draft.specs.Drafts.{tasks_in, module_of}
+use Rattle.draft.proofs.Modules.{module_length, draft_within}
+use Rattle.tape.proofs.Lengths.{module_short, encode_length}
+use Rattle.tape_writer.proofs.Sizes.{sizes_of}
+use borrow.Author.Tests.{tests}
 use Rattle.tape_writer.proofs.writer.tape_length.Goals as goal
 
-pub overflow_add-partitions-in-loop-partition : goal.overflow_add-partitions-in-loop-partition
-overflow_add-partitions-in-loop-partition c =
-    let m = module_of c.args.draft.now in
-    let on = at_drop_more partitions_size m c.loop-partition.partition [] (omega arith) in
-    let ks = ap length c.tasks.ensures in
-    record { fits = omega (arith, on, module_short m (draft_within c.args.draft.now)) }
-
-pub loop-partition-preserved : goal.loop-partition-preserved
-loop-partition-preserved c =
-    let on = at_drop_more partitions_size (module_of c.args.draft.now) c.loop-partition.partition [] (omega arith) in
-    let ks = ap length c.tasks.ensures in
-    omega (arith, on)
+pub sum-partitions-requires-clause-fits : goal.sum-partitions-requires-clause-fits
+sum-partitions-requires-clause-fits c =
+    let d = c.args.draft.now in
+    let ps = c.partitions.result.now in
+    let few : length ps ≤ 8 = omega (arith, module_length d, d.few, ap length c.partitions.ensures, length-map ps tasks_in) in
+    fits_from_length _ _ 8 (2 ^ 64) (at_most_from_yields_List (YieldsList-from_slice ps cc) few) c.map.ensures.closure (omega arith) (λ x r q k. let few = x.now.ok.0 in let l = x.now.tasks.ok.0 in search (rules, tests))
 
 pub overflow_add-result-3 : goal.overflow_add-result-3
 overflow_add-result-3 c =
-    let m = module_of c.args.draft.now in
-    record { fits = omega (arith, module_short m (draft_within c.args.draft.now)) }
+    let d = c.args.draft.now in
+    let total : c.sum-partitions.result ≡ sum_by (λ p. 1 + 7 * length (tasks_in p)) c.partitions.result.now = search (rules, chains) in
+    record { fits = omega (arith, total, sizes_of c.partitions.result.now (module_of d) c.partitions.ensures, module_short (module_of d) (draft_within d)) }
 
 pub returns : goal.returns
 returns c f =
     let m = module_of c.args.draft.now in
-    let all = at_drop_all partitions_size m c.loop-partition.partition (omega arith) in
-    omega (arith, all, encode_length m f c.args.windows.now)
+    let total : c.sum-partitions.result ≡ sum_by (λ p. 1 + 7 * length (tasks_in p)) c.partitions.result.now = search (rules, chains) in
+    omega (arith, total, sizes_of c.partitions.result.now m c.partitions.ensures, encode_length m f c.args.windows.now)
