@@ -8,18 +8,12 @@ ghost use Rattle.tape.specs.Loading.{decode};
 ghost use Rattle.plan_listing.specs.PlanLines.{plan_refusal, plan_lines, planned};
 
 use draft::Draft;
-use listing::{refusal_line, window_lines};
+use listing::{number_line, refusal_line, window_lines};
 use model::Window;
 use order::Listed;
 use planner::{PlanRefusal, shortest_windows};
 use std::alloc::{AllocError, Global};
 use tape_reader::read;
-
-const NO_WINDOW: Window = Window {
-    partition: 0,
-    start: 0,
-    length: 0,
-};
 
 // The line of a refusal of the planner.
 fn plan_refusal_line(heap: Global, refusal: PlanRefusal) -> Result<String, AllocError>
@@ -29,7 +23,7 @@ fn plan_refusal_line(heap: Global, refusal: PlanRefusal) -> Result<String, Alloc
     match refusal {
         PlanRefusal::Infeasible { partition } => format!(in heap; "refused {number} {partition}\n"),
         PlanRefusal::FrameLength | PlanRefusal::ShortList | PlanRefusal::ExceedsFrame => {
-            format!(in heap; "refused {number}\n")
+            number_line(heap, number)
         }
     }
 }
@@ -38,7 +32,7 @@ fn plan_refusal_line(heap: Global, refusal: PlanRefusal) -> Result<String, Alloc
 fn draft_lines(heap: Global, draft: &Draft, frame: u16) -> Result<String, AllocError>
     ensures { IfOk result (λ s. string_bytes s ≡ plan_lines (plan listed (module_of draft.now) frame 8)) }
 {
-    let mut windows = [NO_WINDOW; 8];
+    let mut windows = [Window::default(); 8];
     match shortest_windows(draft, &Listed, frame, &mut windows) {
         Ok(count) => window_lines(heap, &windows[..count as usize]),
         Err(refusal) => plan_refusal_line(heap, refusal),
@@ -50,7 +44,7 @@ pub fn plan_text(heap: Global, tape: &[u8]) -> Result<String, AllocError>
     ensures { IfOk result (λ s. string_bytes s ≡ planned (decode tape.now)) }
 {
     let mut draft = Draft::new(heap);
-    let mut windows = [NO_WINDOW; 64];
+    let mut windows = [Window::default(); 64];
     match read(heap, tape, &mut draft, &mut windows) {
         Ok(loaded) => draft_lines(heap, &draft, loaded.frame),
         Err(refusal) => refusal_line(heap, refusal),

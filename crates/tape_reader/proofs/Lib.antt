@@ -1,2 +1,2 @@
-mod Located
+mod Mapped
 mod Whole

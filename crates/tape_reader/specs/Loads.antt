@@ -62,8 +62,3 @@ MemoryWanted places tape (Fault e o) = (64 ≤ places) × (adds (slice_index tap
 -- what the reader gives: the draft's module, the frame, and the first windows of the list
 abbrev pub given : Module → Loaded → List ModelWindow → Contents
 given m x ws = record { partitions = m; frame = x.frame; windows = take x.windows ws }
-
--- a command's answer, its fault with the command's offset
-abbrev pub located : {A : Type 0} → ℕ → Result A CommandFault → Result A ReadRefusal
-located o (Ok x) = Ok x
-located o (Err e) = Err (Fault e o)

@@ -1,6 +1,5 @@
 // What has been read of a tape, aside from the caller's draft and list, until the tape turns out to be whole.
-ghost use Rattle.std.specs.Prelude.{◌≡◌, ◌-◌, length};
-ghost use Rattle.std.specs.List.{slice_get};
+ghost use Rattle.std.specs.Prelude.{◌≡◌};
 ghost use Rattle.tape_reader.specs.Loads.{progress, Obeys};
 ghost use Rattle.tape.specs.Loading.{nothing_read, obeyed};
 
@@ -16,16 +15,6 @@ pub(crate) struct Load {
     pub(crate) frame: u16,
     pub(crate) windows: Vec<Window>,
     pub(crate) turn: Turn,
-}
-
-// The last window, if there is one.
-fn last_of(windows: &[Window]) -> Option<Window>
-    ensures { result ≡ slice_get windows.now (length windows.now - 1) }
-{
-    match windows {
-        [] => None,
-        [.., last] => Some(*last),
-    }
 }
 
 impl Load {
@@ -72,12 +61,8 @@ impl Load {
     {
         let index = self.windows.len();
         check_count(index + 1)?;
-        check_window(
-            self.frame,
-            index as u16,
-            last_of(self.windows.as_slice()),
-            window,
-        )?;
+        let last = self.windows.last().copied();
+        check_window(self.frame, index as u16, last, window)?;
         self.windows.push(window)?;
         self.turn = Turn::AfterFrame;
         Ok(())

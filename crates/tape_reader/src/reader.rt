@@ -5,7 +5,7 @@ ghost use Rattle.model.specs.WindowLists.{list_answer, overlap};
 ghost use Rattle.draft.specs.Drafts.{module_of};
 ghost use Rattle.tape.specs.Commands.{bytes, encode};
 ghost use Rattle.tape.specs.Faults.{breach};
-ghost use Rattle.tape_reader.specs.Loads.{progress, adds, Fails, MemoryWanted, located, whole_tape, told_fault, read_number, given};
+ghost use Rattle.tape_reader.specs.Loads.{progress, adds, Fails, MemoryWanted, whole_tape, told_fault, read_number, given};
 ghost use Rattle.tape.specs.Loading.{next, decode, reading, done, contents};
 
 use crate::load::Load;
@@ -28,10 +28,7 @@ impl ReadRefusal {
     {
         match self {
             ReadRefusal::ShortList => Some(76),
-            ReadRefusal::Fault { fault, .. } => match fault.placed() {
-                Some((number, _)) => Some(number),
-                None => None,
-            },
+            ReadRefusal::Fault { fault, .. } => fault.placed().map(|(number, _)| number),
         }
     }
 }
@@ -41,16 +38,6 @@ impl ReadRefusal {
 pub struct Loaded {
     pub windows: u16,
     pub frame: u16,
-}
-
-// A command's fault gains the command's offset.
-fn at<T>(answer: Result<T, CommandFault>, offset: u16) -> Result<T, ReadRefusal>
-    ensures { result ≡ located offset answer }
-{
-    match answer {
-        Ok(x) => Ok(x),
-        Err(fault) => Err(ReadRefusal::Fault { fault, offset }),
-    }
 }
 
 // The next command, read and obeyed, and what follows it.
@@ -89,8 +76,11 @@ fn load_tape(heap: Global, tape: &[u8]) -> Result<Load, ReadRefusal>
     let mut rest = tape;
     loop {
         let offset = (tape.len() - rest.len()) as u16;
-        let (command, after) = at(step(&mut load, rest), offset)?;
-        if let Command::End = command {
+        let (command, after) = step(&mut load, rest).map_err(|fault| ReadRefusal::Fault {
+            fault,
+            offset,
+        })?;
+        if command == Command::End {
             return ended(load, after, offset);
         }
         rest = after;
@@ -111,7 +101,7 @@ fn store(load: Load, draft: &mut Draft, windows: &mut [Window]) -> Loaded
         turn: _,
     } = load;
     let count = list.len();
-    windows[0..count].copy_from_slice(list.as_slice());
+    windows[..count].copy_from_slice(list.as_slice());
     *draft = read;
     Loaded {
         windows: count as u16,

@@ -1,10 +1,12 @@
-use Rattle.std.proofs.Common.{◌-◌, length, sym, ◌∙◌, subst, arith}
+use Rattle.std.proofs.Common.{◌≡◌, ◌-◌, length, sym, ◌∙◌, subst, arith, rules}
 use Rattle.draft.proofs.Modules.{draft_within}
 use Rattle.tape_reader.specs.Loads.{progress}
 use Rattle.std.proofs.lemmas.Result.{err_from_is_err_and}
 use Rattle.tape.specs.Faults.{breach}
-use Rattle.tape_reader.proofs.Located.{located_ok, located_err}
 use Rattle.tape.proofs.Reading.{Standing, no_end, standing_start, standing_offset, standing_next}
+use Rattle.tape.specs.declared.command.Command.TheVariants.{End}
+use Rattle.tape_reader.specs.declared.reader.ReadRefusal.TheVariants.{Fault}
+use Rattle.tape_reader.proofs.Mapped.{mapped_ok, mapped_err}
 use Rattle.tape_reader.proofs.Whole.{loaded_at_end, standing_told}
 use Rattle.tape_reader.proofs.reader.load_tape.Goals as goal
 
@@ -22,30 +24,32 @@ overflow_cast-offset c =
     let o = (standing_offset c.args.tape.now (progress load) c.loop-load.rest.now c.loop-load.invariant (draft_within load.draft)).1 in
     record { fits = omega arith }
 
-pub returns-in_err-command : goal.returns-in_err-command
-returns-in_err-command c =
-    let tape = c.args.tape.now in
-    let xs = c.loop-load.rest.now in
-    let p = err_from_is_err_and c.from_residual.result c.from_residual.ensures.1 in
-    let f = located_err (length tape - length xs) c.step.result c.in_err-command.field-0.0 (sym c.at.ensures ∙ c.in_err-command.was) in
-    let fails = rw f.1 at c.step.ensures.answer in
-    rw (p.1, p.2, f.2) (record { answer = standing_told tape (progress c.loop-load.load) xs c.loop-load.invariant (draft_within c.loop-load.load.draft) (breach f.0) fails; again = tt; accepted = tt; few = tt })
-
 pub ended-requires : goal.ended-requires
 ended-requires c =
     let load = c.loop-load.load in
     omega (arith, (standing_offset c.args.tape.now (progress load) c.loop-load.rest.now c.loop-load.invariant (draft_within load.draft)).1)
 
-pub returns-in-End : goal.returns-in-End
-returns-in-End c =
+pub returns-in_err-command-clause-answer : goal.returns-in_err-command-clause-answer
+returns-in_err-command-clause-answer c =
+    let tape = c.args.tape.now in
+    let xs = c.loop-load.rest.now in
+    let p = err_from_is_err_and c.from_residual.result c.from_residual.ensures.1 in
+    let f = mapped_err _ c.step.result c.map_err.result c.in_err-command.field-0.0 c.map_err.ensures.cases c.in_err-command.was in
+    let here : c.in_err-command.field-0.0 ≡ Fault f.0 (length tape - length xs) = let k = f.2 in search rules in
+    let fails = rw f.1 at c.step.ensures.answer in
+    rw (p.1, p.2, here) (standing_told tape (progress c.loop-load.load) xs c.loop-load.invariant (draft_within c.loop-load.load.draft) (breach f.0) fails)
+
+pub returns-then-eq : goal.returns-then-eq
+returns-then-eq c =
     let tape = c.args.tape.now in
     let xs = c.loop-load.rest.now in
     let m = c.in_ok-command.command in
     let rest = c.in_ok-command.after in
-    let ok = located_ok (length tape - length xs) c.step.result (m, rest) (sym c.at.ensures ∙ c.in_ok-command.was) in
+    let ok = mapped_ok _ c.step.result c.map_err.result (m, rest) c.map_err.ensures.cases c.in_ok-command.was in
     let e = rw ok at c.step.ensures.bytes in
     let r = rw ok at c.step.ensures.answer in
-    rw c.ended.ensures (loaded_at_end tape (progress c.loop-load.load) xs c.loop-load.invariant m rest.now c.step.new.load e r c.in-End.is (draft_within c.loop-load.load.draft))
+    let end : m ≡ End = search rules in
+    rw c.ended.ensures (loaded_at_end tape (progress c.loop-load.load) xs c.loop-load.invariant m rest.now c.step.new.load e r end (draft_within c.loop-load.load.draft))
 
 pub loop-load-preserved : goal.loop-load-preserved
 loop-load-preserved c =
@@ -53,7 +57,7 @@ loop-load-preserved c =
     let xs = c.loop-load.rest.now in
     let m = c.in_ok-command.command in
     let rest = c.in_ok-command.after in
-    let ok = located_ok (length tape - length xs) c.step.result (m, rest) (sym c.at.ensures ∙ c.in_ok-command.was) in
+    let ok = mapped_ok _ c.step.result c.map_err.result (m, rest) c.map_err.ensures.cases c.in_ok-command.was in
     let e = rw ok at c.step.ensures.bytes in
     let r = rw ok at c.step.ensures.answer in
-    standing_next tape (progress c.loop-load.load) xs c.loop-load.invariant m rest.now (progress c.step.new.load) e r (no_end m c.in_default.not-End)
+    standing_next tape (progress c.loop-load.load) xs c.loop-load.invariant m rest.now (progress c.step.new.load) e r (no_end m (search rules))
