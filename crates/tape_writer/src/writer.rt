@@ -120,7 +120,8 @@ impl Cursor<'_> {
     }
 }
 
-// How many bytes the tape has.
+// How many bytes the tape has: one for a partition and seven for a task, three for the frame, six for a window, one for
+// the end.
 fn tape_length(draft: &Draft, windows: &[Window]) -> usize
     requires { length windows.now ≤ 64 }
     ensures { (f : ℕ) → result ≡ length (encode (module_of draft.now) f windows.now) }
@@ -130,7 +131,7 @@ fn tape_length(draft: &Draft, windows: &[Window]) -> usize
         .iter()
         .map(|partition| 1 + 7 * partition.tasks().len())
         .sum();
-    partitions + (3 + (6 * windows.len() + 1))
+    partitions + (3 + 6 * windows.len() + 1)
 }
 
 // Writes the tape of a draft with its frame and windows, and answers how many bytes it has; later bytes are unchanged.

@@ -1,4 +1,4 @@
-use Rattle.std.proofs.Common.{◌≡◌, ◌-◌, length, sym, ◌∙◌, subst, arith, rules}
+use Rattle.std.proofs.Common.{◌≡◌, ◌-◌, length, sym, subst, arith, rules}
 use Rattle.draft.proofs.Modules.{draft_within}
 use Rattle.tape_reader.specs.Loads.{progress}
 use Rattle.std.proofs.lemmas.Result.{err_from_is_err_and}
