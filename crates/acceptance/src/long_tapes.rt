@@ -72,7 +72,10 @@ fn sixty_fifth_window(rt: HostRuntime) -> Result<(), Fail> {
     ] {
         let mut tape = Vec::new(rt.alloc());
         frame(&mut tape, 65, bad)?;
-        assert!(rt; is_listed(rt.alloc(), &tape, want)?, "window {bad} bad");
+        assert!(rt;
+            is_listed(rt.alloc(), &tape, want)?,
+            "window {bad} of partition 8"
+        );
     }
     Ok(())
 }

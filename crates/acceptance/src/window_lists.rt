@@ -20,7 +20,11 @@ fn single_windows(rt: HostRuntime) {
         (1024, window(0, 65535, 65535), misplaced),
         (1025, window(0, 0, 1), Err(WindowRefusal::FrameLength)),
     ] {
-        assert_eq!(rt; check_list(frame, &[only]), want, "{only:?} in {frame}");
+        assert_eq!(rt;
+            check_list(frame, &[only]),
+            want,
+            "{only:?} in a frame of {frame}"
+        );
     }
 }
 
@@ -33,7 +37,7 @@ fn frames(rt: HostRuntime) {
         (1025, Err(WindowRefusal::FrameLength)),
         (65535, Err(WindowRefusal::FrameLength)),
     ] {
-        assert_eq!(rt; check_list(frame, &[]), want, "frame {frame}");
+        assert_eq!(rt; check_list(frame, &[]), want, "a frame of {frame}");
     }
 }
 
@@ -78,7 +82,11 @@ fn sixty_fifth_window(rt: HostRuntime) -> Result<(), Fail> {
         (65, 64, 3, Err(WindowRefusal::Misplaced { window: 3 })),
     ] {
         let list = end_to_end(rt.alloc(), count, bad)?;
-        assert_eq!(rt; check_list(frame, list.as_slice()), want, "{count} windows, {bad} bad");
+        assert_eq!(rt;
+            check_list(frame, list.as_slice()),
+            want,
+            "{count} windows, number {bad} of no length"
+        );
     }
     Ok(())
 }
