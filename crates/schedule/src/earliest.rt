@@ -1,7 +1,7 @@
 // The calls that release each task as early as allowed before each tick.
 ghost use Rattle.std.specs.Prelude.{◌≡◌, ◌≤◌, ◌++◌, length, IfOk, OnOk};
 ghost use Rattle.draft.specs.Drafts.{module_of};
-ghost use Rattle.schedule.specs.Earliest.{release_at, partition_releases, calls_at, earliest_calls, AsEarlyAsAllowed};
+ghost use Rattle.schedule.specs.Earliest.{partition_releases, calls_at, earliest_calls, AsEarlyAsAllowed};
 
 use draft::Draft;
 use model::{Call, Request, Task};
