@@ -4,8 +4,6 @@ use Rattle.std.specs.declared.alloc.AllocError.{AllocError}
 use Rattle.model.specs.declared.call.Call.{Call}
 use Rattle.model.specs.declared.entry.Entry.{Entry}
 use Rattle.model.specs.declared.refusal.Refusal.TheVariants.{NotCleared}
-use Rattle.model.specs.declared.refusal.Refusal.{Refusal}
-use Rattle.model.specs.declared.reply.Reply.{Reply}
 use Rattle.promises.specs.Promises.{Promised}
 use Rattle.model.specs.FlightRecords.{calls_of, flight}
 use Rattle.model.specs.Promises.{executive}

@@ -111,7 +111,7 @@ module _ (g : Engine) (m : Module) where
       may_now = le-leb _ _ (omega (arith, multiple_here T u _ here z, h.now_is))
 
       granted_now : accepted (reply g m st (call q (release j))) ≡ true
-      unfolding accepted answered
+      unfolding accepted
       granted_now = ap accepted (release_reply st q j l ∙ cond-true _ _ _ may_now)
 
       has_q : has_partition m q ≡ true
