@@ -3,7 +3,7 @@ use Rattle.std.proofs.Common.{◌≡◌, ℕ, Bool, true, List, vec_items, ap, �
 use Rattle.model.specs.declared.call.Call.{Call}
 use Rattle.model.specs.declared.entry.Entry.{Entry}
 use Rattle.model.specs.FlightRecords.{calls_of}
-use Rattle.model.specs.Machine.{DispatchRule, Engine, MachineState, by_order, new}
+use Rattle.model.specs.Machine.{DispatchRule, Engine, by_order, new}
 use Rattle.model.specs.Orders.{Order}
 use Rattle.model.specs.Promises.{executive}
 use Rattle.model.specs.Timetables.{LawfulTimetable, Timetable}
@@ -12,16 +12,11 @@ use Rattle.dispatch.specs.declared.by_order.ByOrder.{ByOrder}
 use Rattle.draft.specs.declared.draft.Draft.{Draft}
 use Rattle.draft.specs.Drafts.{module_of}
 use Rattle.draft.proofs.Modules.{draft_within}
-use Rattle.executive.specs.declared.sealed.Sealed.{Sealed}
 use Rattle.executive.specs.Sealing.{SealedAs}
-use Rattle.executive.specs.States.{clears, engine_of, sealed_module, told_verdict}
+use Rattle.executive.specs.States.{clears, sealed_module, told_verdict}
 use Rattle.flight.specs.declared.parts.Flight.{Flight}
-use Rattle.flight.specs.Flights.{Flown, heard, made_calls}
+use Rattle.flight.specs.Flights.{Flown, heard, heard_of, made_calls}
 use Rattle.flight.proofs.Heard.{heard_calls, heard_flight, heard_refused}
-
--- the entries of some calls of a sealed module
-abbrev pub heard_of : {T D : Type 0} → (T → Timetable) → (D → DispatchRule) → Sealed T D → MachineState → List Call → List Entry
-heard_of means rule s st cs = heard (clears (told_verdict s)) (engine_of means rule s) (sealed_module s) st cs
 
 module _ {T O : Type 0} (means : T → Timetable) (goes : O → Order) where
   abbrev pub rule_of : ByOrder O → DispatchRule

@@ -7,14 +7,15 @@ use Rattle.model.specs.declared.refusal.Refusal.TheVariants.{NotCleared}
 use Rattle.promises.specs.Promises.{Promised}
 use Rattle.model.specs.FlightRecords.{calls_of, flight}
 use Rattle.model.specs.Promises.{executive}
-use Rattle.model.specs.Machine.{Engine, MachineState, after, by_order, new, reply}
+use Rattle.model.specs.Machine.{DispatchRule, Engine, MachineState, after, by_order, new, reply}
 use Rattle.model.specs.Modules.{Module}
 use Rattle.model.specs.Orders.{Order}
 use Rattle.model.specs.Timetables.{Timetable}
 use Rattle.draft.specs.declared.draft.Draft.{Draft}
 use Rattle.draft.specs.Drafts.{module_of}
 use Rattle.executive.specs.Sealing.{SealedAs}
-use Rattle.executive.specs.States.{clears, told_verdict}
+use Rattle.executive.specs.declared.sealed.Sealed.{Sealed}
+use Rattle.executive.specs.States.{clears, engine_of, sealed_module, told_verdict}
 use Rattle.flight.specs.declared.parts.Flight.{Flight}
 
 -- the calls that were made of those given: all, or none where memory was wanting
@@ -31,6 +32,10 @@ abbrev pub heard : Bool → Engine → Module → MachineState → List Call →
 heard cleared g m st [] = []
 heard cleared g m st (c ∷ cs) =
     record { call = c; answer = cond cleared (reply g m st c) (Err NotCleared) } ∷ heard cleared g m (cond cleared (after g m st c) st) cs
+
+-- the same of a sealed module, by what its timetable and dispatch rule mean
+abbrev pub heard_of : {T D : Type 0} → (T → Timetable) → (D → DispatchRule) → Sealed T D → MachineState → List Call → List Entry
+heard_of means rule s st cs = heard (clears (told_verdict s)) (engine_of means rule s) (sealed_module s) st cs
 
 -- A flight of a draft from a tick, by what timetable and order mean. The module is sealed as `seal` says, with the verdict
 -- on the draft. The entries are of the calls that were made: of a module that is not cleared each is refused with 30, of a

@@ -1,7 +1,7 @@
 // The flight recorder. It allocates before the first call; no call does.
 ghost use Rattle.std.specs.Prelude.{◌≡◌, ◌+◌, ◌≤◌, ◌++◌, length, vec_len, vec_capacity};
-ghost use Rattle.executive.specs.States.{clears, engine_of, sealed_module, state_in, told_verdict};
-ghost use Rattle.flight.specs.Flights.{Flown, heard};
+ghost use Rattle.executive.specs.States.{state_in};
+ghost use Rattle.flight.specs.Flights.{Flown, heard_of};
 
 use crate::asking::ask;
 use crate::parts::Flight;
@@ -20,7 +20,7 @@ fn make_calls<T: Timetable, D: Dispatch>(
     entries: &mut Vec<Entry>,
 )
     requires { vec_len entries.old + length calls.now ≤ vec_capacity entries.old }
-    ensures entries { entries.new.items ≡ entries.old.items ++ heard (clears (told_verdict running.old.sealed)) (engine_of T.Timetable.means D.Dispatch.rule running.old.sealed) (sealed_module running.old.sealed) (state_in running.old) calls.now }
+    ensures entries { entries.new.items ≡ entries.old.items ++ heard_of T.Timetable.means D.Dispatch.rule running.old.sealed (state_in running.old) calls.now }
     ensures same { running.new.sealed ≡ running.old.sealed }
 {
     for call in calls {

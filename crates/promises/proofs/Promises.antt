@@ -1,8 +1,5 @@
 -- The promises follow from the theorems on flight records and verdicts.
-use mathlib.Core.Bool.{true}
-use mathlib.Core.List.{List, [], ◌∷◌}
-use mathlib.Core.Path.{◌≡◌, ◌∙◌, ap, refl, subst, sym}
-use Prim.Native.Nat.{ℕ}
+use Rattle.std.proofs.Common.{◌≡◌, ℕ, true, List, [], ◌∷◌, sym, refl, ap, ◌∙◌, subst}
 use Rattle.model.specs.declared.call.Call.{Call}
 use Rattle.model.specs.declared.entry.Entry.{Entry}
 use Rattle.model.specs.declared.verdict.Verdict.TheVariants.{Cleared as is_cleared}

@@ -2,7 +2,8 @@ use Rattle.std.proofs.Common.{◌≡◌, ◌++◌, sym, ap, ◌∙◌, subst}
 use Rattle.model.specs.Machine.{new}
 use Rattle.executive.specs.Sealing.{SealedAs}
 use Rattle.executive.specs.States.{state_in}
-use Rattle.flight.proofs.Flights.{flown, heard_of, rule_of}
+use Rattle.flight.specs.Flights.{heard_of}
+use Rattle.flight.proofs.Flights.{flown, rule_of}
 use Rattle.flight.proofs.flying.fly.Goals as goal
 
 pub returns-in_default : goal.returns-in_default
