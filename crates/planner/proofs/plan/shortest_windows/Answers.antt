@@ -1,6 +1,5 @@
-use Rattle.std.proofs.Common.{◌≡◌, [], leb, sum, MatchResult, Ok, Err, Result, sym, ap, ◌∙◌, arith, rules}
+use Rattle.std.proofs.Common.{◌≡◌, [], leb, sum, MatchResult, Ok, Err, Result, sym, ap, ◌∙◌, rules}
 use Rattle.std.proofs.lemmas.Result.{err_from_is_err_and}
-use Rattle.std.proofs.lemmas.Bool.{leb-true}
 use Rattle.model.specs.Answers.{granted}
 use Rattle.model.proofs.Timetables.{frame_granted}
 use Rattle.draft.proofs.Modules.{draft_within}
@@ -40,15 +39,6 @@ returns-then-not-fit g c =
     let are = c.in_ok-shares.ensures ∙ ap granted (sym c.deref.ensures.0) in
     refused_as _ _ 62 [] (plan_exceeds _ _ _ _ framed c.if-windows-lt8.false _ are c.if-not-fit.ensures)
 
-pub write-requires : goal.write-requires
-write-requires g c =
-    let framed = frame_good c.args.frame _ _ c.map_err.ensures.variant c.check_frame.ensures _ c.in_ok-map_err.was in
-    let same : c.deref-2.result.now ≡ c.deref.result.now = c.deref-2.ensures.0 ∙ sym c.deref.ensures.0 in
-    record {
-      few = c.deref-2.ensures.1;
-      room = c.if-windows-lt8.false;
-      short = omega (arith, (frame_granted c.args.frame (tt, framed)).1, leb-true _ _ (sym c.if-not-fit.ensures), ap sum same);
-    }
 
 pub returns : goal.returns
 returns g c =

@@ -19,11 +19,6 @@ loop-partition-preserved-then-share-eq0 c =
       c.loop-partition.invariant.3,
     )
 
-pub overflow_add-start : goal.overflow_add-start
-overflow_add-start c =
-    let qs : List ℕ = c.args.shares.now in
-    let e = sum_by-drop_more (λ q. q) qs c.loop-partition.partition 0 c.loop-partition-test.true in
-    omega (arith, e, c.loop-partition.invariant.1, c.requires.short)
 
 pub loop-partition-preserved : goal.loop-partition-preserved
 loop-partition-preserved c =

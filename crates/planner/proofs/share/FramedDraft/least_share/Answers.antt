@@ -1,12 +1,10 @@
 use Rattle.std.proofs.Common.{arith}
-use Rattle.planner.proofs.Shares.{bisects_all, lower_half, none_least, upper_half}
+use Rattle.planner.proofs.Shares.{lower_half, none_least, upper_half}
 use Rattle.planner.proofs.share.FramedDraft.least_share.Goals as goal
 
 pub returns-then-not-is_enough : goal.returns-then-not-is_enough
 returns-then-not-is_enough g c = none_least _ _ _ _ c.if-not-is_enough.ensures
 
-pub loop-low-init : goal.loop-low-init
-loop-low-init g c = bisects_all _ _ _ _ c.if-not-is_enough.ensures
 
 pub loop-low-preserved-then-is_enough : goal.loop-low-preserved-then-is_enough
 loop-low-preserved-then-is_enough g c =

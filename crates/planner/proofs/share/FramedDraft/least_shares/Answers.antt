@@ -1,8 +1,7 @@
 use Rattle.std.proofs.Common.{◌≡◌, None, Some, Ok, Err, Option, sym, ◌∙◌, arith, refl}
 use Rattle.std.specs.Option.{ok_or}
 use Rattle.std.proofs.lemmas.Result.{err_from_is_err_and}
-use Rattle.draft.proofs.Modules.{module_length}
-use Rattle.planner.proofs.Windows.{after_none, qs_all, qs_missing, qs_more}
+use Rattle.planner.proofs.Windows.{qs_all, qs_missing, qs_more}
 use Rattle.planner.proofs.share.FramedDraft.least_shares.Goals as goal
 
 missing : {A E : Type 0} (o : Option A) (d e : E) → ok_or o d ≡ Err e → (o ≡ None) × (e ≡ d)
@@ -13,8 +12,6 @@ found : {A E : Type 0} (o : Option A) (d : E) (a : A) → ok_or o d ≡ Ok a →
 found None d a h = absurd (cc)
 found (Some b) d a h = cc
 
-pub loop-partition-init : goal.loop-partition-init
-loop-partition-init g c = rw c.new-shares.ensures (refl, after_none _)
 
 pub returns-in_err-share : goal.returns-in_err-share
 returns-in_err-share g c =
@@ -22,8 +19,6 @@ returns-in_err-share g c =
     let none = missing _ _ _ (sym c.ok_or.ensures.value ∙ c.in_err-share.was) in
     rw (p.1, p.2, none.1) (c.loop-partition.invariant.1 ∙ qs_missing _ _ _ _ _ (omega arith) (sym c.least_share.ensures ∙ none.0))
 
-pub push-requires : goal.push-requires
-push-requires g c = let d = c.args.self.now.draft.now in omega (arith, module_length d, d.few, c.loop-partition.invariant.0)
 
 pub loop-partition-preserved : goal.loop-partition-preserved
 loop-partition-preserved g c =
