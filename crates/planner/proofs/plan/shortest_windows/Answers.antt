@@ -39,7 +39,6 @@ returns-then-not-fit g c =
     let are = c.in_ok-shares.ensures ∙ ap granted (sym c.deref.ensures.0) in
     refused_as _ _ 62 [] (plan_exceeds _ _ _ _ framed c.if-windows-lt8.false _ are c.if-not-fit.ensures)
 
-
 pub returns : goal.returns
 returns g c =
     let framed = frame_good c.args.frame _ _ c.map_err.ensures.variant c.check_frame.ensures _ c.in_ok-map_err.was in

@@ -19,7 +19,6 @@ loop-partition-preserved-then-share-eq0 c =
       c.loop-partition.invariant.3,
     )
 
-
 pub loop-partition-preserved : goal.loop-partition-preserved
 loop-partition-preserved c =
     let qs : List ℕ = c.args.shares.now in

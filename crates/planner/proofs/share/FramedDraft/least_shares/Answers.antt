@@ -12,13 +12,11 @@ found : {A E : Type 0} (o : Option A) (d : E) (a : A) → ok_or o d ≡ Ok a →
 found None d a h = absurd (cc)
 found (Some b) d a h = cc
 
-
 pub returns-in_err-share : goal.returns-in_err-share
 returns-in_err-share g c =
     let p = err_from_is_err_and c.from_residual.result c.from_residual.ensures.1 in
     let none = missing _ _ _ (sym c.ok_or.ensures.value ∙ c.in_err-share.was) in
     rw (p.1, p.2, none.1) (c.loop-partition.invariant.1 ∙ qs_missing _ _ _ _ _ (omega arith) (sym c.least_share.ensures ∙ none.0))
-
 
 pub loop-partition-preserved : goal.loop-partition-preserved
 loop-partition-preserved g c =
