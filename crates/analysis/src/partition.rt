@@ -76,6 +76,15 @@ impl<'a, O: LocalOrder> Partition<'a, O> {
         )
     }
 
+    // Whether a task goes before another.
+    fn goes_before(&self, number: usize, other: usize) -> bool
+        requires known { number < length self.now.tasks.now }
+        requires also { other < length self.now.tasks.now }
+        ensures { result ≡ (seen O.LocalOrder.order self.now).before number other }
+    {
+        self.order.before(self.key(number), self.key(other))
+    }
+
     // The task or the other, if there is one: whichever goes first.
     fn goes_first(&self, number: usize, other: Option<usize>) -> usize
         requires known { number < length self.now.tasks.now }
@@ -85,7 +94,7 @@ impl<'a, O: LocalOrder> Partition<'a, O> {
         let Some(rival) = other else {
             return number;
         };
-        if self.order.before(self.key(number), self.key(rival)) {
+        if self.goes_before(number, rival) {
             number
         } else {
             rival
