@@ -28,10 +28,6 @@ partition_commands ks = Partition ∷ map task_command ks
 abbrev pub partition_bytes : List ModelTask → List ℕ
 partition_bytes ks = flat_map bytes (partition_commands ks)
 
--- the windows, followed by the end
-abbrev pub windows_bytes : List ModelWindow → List ℕ
-windows_bytes ws = flat_map bytes (map Window ws) ++ bytes End
-
 -- the partitions with their tasks, the frame, the windows, the end
 abbrev pub commands : Module → ℕ → List ModelWindow → List Command
 commands m f ws = flat_map partition_commands m ++ (Frame f ∷ (map Window ws ++ (End ∷ [])))

@@ -7,6 +7,7 @@ use Rattle.model.specs.Answers.{Gives, granted}
 use Rattle.model.specs.WindowLists.{list_answer, overlap}
 use Rattle.model.specs.Modules.{module_within}
 use Rattle.draft.specs.Drafts.{module_of}
+use Rattle.draft.proofs.Modules.{draft_within}
 use Rattle.tape.specs.declared.command.Command.{Command}
 use Rattle.tape.specs.declared.command.Command.TheVariants.{End}
 use Rattle.tape.specs.declared.fault.CommandFault.TheVariants.{Tape}
@@ -30,6 +31,10 @@ Loads tape r = record {
   accepted : IfOk r (λ l. list_answer overlap l.frame (vec_items l.windows) ≡ granted tt);
   few : IfOk r (λ l. vec_len l.windows ≤ 64);
 }
+
+-- where the next command stands
+pub load_offset : (tape : List ℕ) (load : Load) (xs : List ℕ) → Standing tape (progress load) xs → (length tape - length xs ≤ 1291) × (length xs ≤ length tape)
+load_offset tape load xs at = let o = standing_offset tape (progress load) xs at (draft_within load.draft) in (o.1, o.2)
 
 module _ (tape : List ℕ) (l : Progress) (xs : List ℕ) (at : Standing tape l xs) (c : Command) (rest : List ℕ) (load : Load) (e : xs ≡ bytes c ++ rest) (r : next l xs ≡ Ok (c, rest, progress load)) (i : c ≡ End) (w : module_within l.partitions ≡ true) where
   end : is_end c ≡ true

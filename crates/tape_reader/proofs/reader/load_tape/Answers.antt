@@ -3,31 +3,25 @@ use Rattle.draft.proofs.Modules.{draft_within}
 use Rattle.tape_reader.specs.Loads.{progress}
 use Rattle.std.proofs.lemmas.Result.{err_from_is_err_and}
 use Rattle.tape.specs.Faults.{breach}
-use Rattle.tape.proofs.Reading.{Standing, no_end, standing_start, standing_offset, standing_next}
+use Rattle.tape.proofs.Reading.{Standing, no_end, standing_start, standing_next}
 use Rattle.tape.specs.declared.command.Command.TheVariants.{End}
 use Rattle.tape_reader.specs.declared.reader.ReadRefusal.TheVariants.{Fault}
 use Rattle.tape_reader.proofs.Mapped.{mapped_ok, mapped_err}
-use Rattle.tape_reader.proofs.Whole.{loaded_at_end, standing_told}
+use Rattle.tape_reader.proofs.Whole.{load_offset, loaded_at_end, standing_told}
 use Rattle.tape_reader.proofs.reader.load_tape.Goals as goal
 
 pub loop-load-init : goal.loop-load-init
 loop-load-init c = subst (λ l. Standing c.args.tape.now l c.args.tape.now) (sym c.new-load.ensures) (standing_start c.args.tape.now)
 
 pub overflow_sub-offset : goal.overflow_sub-offset
-overflow_sub-offset c =
-    let load = c.loop-load.load in
-    (standing_offset c.args.tape.now (progress load) c.loop-load.rest.now c.loop-load.invariant (draft_within load.draft)).2
+overflow_sub-offset c = (load_offset c.args.tape.now c.loop-load.load c.loop-load.rest.now c.loop-load.invariant).1
 
 pub overflow_cast-offset : goal.overflow_cast-offset
 overflow_cast-offset c =
-    let load = c.loop-load.load in
-    let o = (standing_offset c.args.tape.now (progress load) c.loop-load.rest.now c.loop-load.invariant (draft_within load.draft)).1 in
-    record { fits = omega arith }
+    record { fits = omega (arith, load_offset c.args.tape.now c.loop-load.load c.loop-load.rest.now c.loop-load.invariant) }
 
 pub ended-requires : goal.ended-requires
-ended-requires c =
-    let load = c.loop-load.load in
-    omega (arith, (standing_offset c.args.tape.now (progress load) c.loop-load.rest.now c.loop-load.invariant (draft_within load.draft)).1)
+ended-requires c = omega (arith, load_offset c.args.tape.now c.loop-load.load c.loop-load.rest.now c.loop-load.invariant)
 
 pub returns-in_err-command-clause-answer : goal.returns-in_err-command-clause-answer
 returns-in_err-command-clause-answer c =
