@@ -4,6 +4,7 @@ use Rattle.std.proofs.lemmas.List.{get_or-append-add}
 use Rattle.std.proofs.lemmas.Bool.{cond_both, cond-true, cond-false, cases_Bool, eqb-true, leb-true}
 use Rattle.model.specs.Answers.{granted}
 use Rattle.model.specs.WindowLists.{list_answer, overlap}
+use Rattle.model.specs.Modules.{task}
 use Rattle.tape.specs.declared.command.Command.{Command}
 use Rattle.tape.specs.declared.command.Command.TheVariants.{Partition, Task, Frame, End}
 use Rattle.tape.specs.declared.command.Turn.{Turn}
@@ -31,7 +32,7 @@ module _ (xs : List ℕ) (fits : Bytes xs) (c : Command) (rest : List ℕ) where
       let P : Result (Command × List ℕ) ℕ → Type 0 = λ r. r ≡ Ok (c, rest) → xs ≡ bytes c ++ rest in
       let first : ℕ = get_or xs 0 0 in
       cond_both (eqb first 0x50) _ _ P (λ e. whole_there 1 Partition (λ h. byte_there xs 0x50 h (eqb-true first 0x50 e)))
-      (λ _. cond_both (eqb first 0x54) _ _ P (λ e. whole_there 7 (Task (word_at xs 1) (word_at xs 3) (word_at xs 5)) (λ h. task_there xs h (eqb-true first 0x54 e) (fits 2) (fits 4) (fits 6)))
+      (λ _. cond_both (eqb first 0x54) _ _ P (λ e. whole_there 7 (Task (task (word_at xs 1) (word_at xs 3) (word_at xs 5))) (λ h. task_there xs h (eqb-true first 0x54 e) (fits 2) (fits 4) (fits 6)))
       (λ _. cond_both (eqb first 0x46) _ _ P (λ e. whole_there 3 (Frame (word_at xs 1)) (λ h. frame_there xs h (eqb-true first 0x46 e) (fits 2)))
       (λ _. cond_both (eqb first 0x57) _ _ P (λ e. whole_there 6 _ (λ h. window_there xs h (eqb-true first 0x57 e) (fits 3) (fits 5)))
       (λ _. cond_both (eqb first 0x45) _ _ P (λ e. whole_there 1 End (λ h. byte_there xs 0x45 h (eqb-true first 0x45 e)))

@@ -11,10 +11,10 @@ use Rattle.tape.specs.Decode.{admits, operands, in_turn, command}
 
 reads_back : (c : Command) (more : List ℕ) → operands (bytes c ++ more) ≡ Ok (c, more)
 reads_back Partition more = search rules
-reads_back (Task c t d) more =
-    let e = div-add-mod c 256 in
-    let f = div-add-mod t 256 in
-    let g = div-add-mod d 256 in
+reads_back (Task k) more =
+    let e = div-add-mod k.cost 256 in
+    let f = div-add-mod k.period 256 in
+    let g = div-add-mod k.deadline 256 in
     search rules
 reads_back (Frame f) more = let e = div-add-mod f 256 in search rules
 reads_back (Window w) more =
@@ -29,7 +29,7 @@ command_some t xs h =
 
 admitted : (t : Turn) (c : Command) (more : List ℕ) → (0 < length (bytes c ++ more)) × (admits t (get_or (bytes c ++ more) 0 0) ≡ Some (follows t c))
 admitted t Partition more = (omega arith, refl)
-admitted t (Task c p d) more = (omega arith, refl)
+admitted t (Task k) more = (omega arith, refl)
 admitted t (Frame f) more = (omega arith, refl)
 admitted t (Window w) more = (omega arith, refl)
 admitted t End more = (omega arith, refl)

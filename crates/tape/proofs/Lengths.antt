@@ -8,10 +8,10 @@ use Rattle.std.specs.List.{flat_map}
 use Rattle.model.specs.declared.task.Task.{Task as ModelTask}
 use Rattle.model.specs.declared.window.Window.{Window as ModelWindow}
 use Rattle.model.specs.Modules.{Module, all_within, partition_within, partitions_within, module_within}
-use Rattle.tape.specs.declared.command.Command.TheVariants.{Frame, Window, End}
+use Rattle.tape.specs.declared.command.Command.TheVariants.{Task, Frame, Window, End}
 use Rattle.tape.specs.declared.command.Turn.{Turn}
 use Rattle.tape.specs.declared.command.Turn.TheVariants.{Start, AfterPartition, AfterTask, AfterFrame}
-use Rattle.tape.specs.Commands.{bytes, task_command, partition_commands, encode}
+use Rattle.tape.specs.Commands.{bytes, partition_commands, encode}
 use Rattle.tape.specs.Loading.{Progress}
 use Rattle.tape.proofs.SoFar.{framed, so_far}
 
@@ -22,7 +22,7 @@ partitions_size m = sum_by (λ ks. 1 + 7 * length ks) m
 one_more : (ks : List ModelTask) (m : Module) → partitions_size (ks ∷ m) ≡ 1 + 7 * length ks + partitions_size m
 one_more ks m = sum_by-cons (λ ks. 1 + 7 * length ks) ks m
 
-tasks_length : (ks : List ModelTask) → length (flat_map bytes (map task_command ks)) ≡ 7 * length ks
+tasks_length : (ks : List ModelTask) → length (flat_map bytes (map Task ks)) ≡ 7 * length ks
 tasks_length [] = refl
 tasks_length (k ∷ ks) = let e = tasks_length ks in omega arith
 

@@ -11,12 +11,12 @@ use Rattle.model.specs.Modules.{Module, within_limits, all_within, partition_wit
 use Rattle.model.specs.WindowLists.{overlap, count_answer, window_answer, windows_answer}
 use Rattle.draft.specs.Drafts.{partition_answer, task_answer, task_answer_in, with_partition}
 use Rattle.tape.specs.declared.command.Command.{Command}
-use Rattle.tape.specs.declared.command.Command.TheVariants.{Window}
+use Rattle.tape.specs.declared.command.Command.TheVariants.{Task, Window}
 use Rattle.tape.specs.declared.command.Turn.{Turn}
 use Rattle.tape.specs.declared.command.Turn.TheVariants.{AfterPartition, AfterTask, AfterFrame}
 use Rattle.tape.specs.declared.fault.Layer.{Layer}
 use Rattle.tape.specs.declared.fault.Layer.TheVariants.{Draft, Windows}
-use Rattle.tape.specs.Commands.{task_command, partition_commands}
+use Rattle.tape.specs.Commands.{partition_commands}
 use Rattle.tape.specs.Decode.{before_frame, in_partition}
 use Rattle.tape.specs.Loading.{Progress, newest, last_of, in_layer}
 use Rattle.windows.proofs.Lists.{both_granted}
@@ -50,7 +50,7 @@ after_tasks t [] = t
 after_tasks t (k ∷ ks) = after_tasks AfterTask ks
 
 module _ (f : ℕ) (ws : List ModelWindow) where
-  tasks_play : (m : Module) (ds ks : List ModelTask) (t : Turn) → in_partition t ≡ true → length ds + length ks ≤ 16 → all_within ks ≡ true → Plays (reads (m ++ (ds ∷ [])) f ws t) (map task_command ks) (reads (m ++ ((ds ++ ks) ∷ [])) f ws (after_tasks t ks))
+  tasks_play : (m : Module) (ds ks : List ModelTask) (t : Turn) → in_partition t ≡ true → length ds + length ks ≤ 16 → all_within ks ≡ true → Plays (reads (m ++ (ds ∷ [])) f ws t) (map Task ks) (reads (m ++ ((ds ++ ks) ∷ [])) f ws (after_tasks t ks))
   tasks_play m ds [] t i h a = ap (λ ks. reads (m ++ (ks ∷ [])) f ws t) (sym (append-nil ds))
   tasks_play m ds (k ∷ ks) t i h a =
       let both = and_parts (within_limits k) (all_within ks) a in
@@ -61,7 +61,7 @@ module _ (f : ℕ) (ws : List ModelWindow) where
         (
           reads (m ++ ((ds ++ (k ∷ [])) ∷ [])) f ws AfterTask,
           granted_ok Draft _ _ _ done ∙ ap (λ p. Ok (reads p f ws AfterTask)) (with_newest m ds k),
-          subst (λ all. Plays (reads (m ++ ((ds ++ (k ∷ [])) ∷ [])) f ws AfterTask) (map task_command ks) (reads (m ++ (all ∷ [])) f ws (after_tasks AfterTask ks))) (append_assoc ds (k ∷ []) ks) rest,
+          subst (λ all. Plays (reads (m ++ ((ds ++ (k ∷ [])) ∷ [])) f ws AfterTask) (map Task ks) (reads (m ++ (all ∷ [])) f ws (after_tasks AfterTask ks))) (append_assoc ds (k ∷ []) ks) rest,
         ),
       )
 

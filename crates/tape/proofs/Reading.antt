@@ -55,7 +55,7 @@ next_none l xs h = ap (after_bytes l) (cond-true (eqb (length xs) 0) (Err 71) (i
 
 pub bytes_some : (c : Command) (more : List ℕ) → length more < length (bytes c ++ more)
 bytes_some Partition more = omega arith
-bytes_some (Task c t d) more = omega arith
+bytes_some (Task k) more = omega arith
 bytes_some (Frame f) more = omega arith
 bytes_some (Window w) more = omega arith
 bytes_some End more = omega arith
@@ -89,14 +89,14 @@ one_more_byte cs c more = simp (flat_map-append, append-nil, append_assoc)
 
 pub the_end : (c : Command) → is_end c ≡ true → c ≡ End
 the_end Partition e = absurd (false≢true e)
-the_end (Task c t d) e = absurd (false≢true e)
+the_end (Task k) e = absurd (false≢true e)
 the_end (Frame f) e = absurd (false≢true e)
 the_end (Window w) e = absurd (false≢true e)
 the_end End e = refl
 
 pub no_end : (c : Command) → (c ≡ End → ⊥) → is_end c ≡ false
 no_end Partition n = refl
-no_end (Task c t d) n = refl
+no_end (Task k) n = refl
 no_end (Frame f) n = refl
 no_end (Window w) n = refl
 no_end End n = absurd (n refl)

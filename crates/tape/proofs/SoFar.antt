@@ -7,7 +7,7 @@ use Rattle.std.specs.List.{flat_map, slice_get}
 use Rattle.model.specs.declared.task.Task.{Task as ModelTask}
 use Rattle.model.specs.declared.window.Window.{Window as ModelWindow}
 use Rattle.model.specs.Answers.{Answer, granted, refused, and_then}
-use Rattle.model.specs.Modules.{Module, task}
+use Rattle.model.specs.Modules.{Module}
 use Rattle.model.specs.WindowLists.{overlap, frame_answer, count_answer, window_answer, windows_answer}
 use Rattle.draft.specs.Drafts.{with_partition, with_task}
 use Rattle.tape.specs.declared.command.Command.{Command}
@@ -15,7 +15,7 @@ use Rattle.tape.specs.declared.command.Command.TheVariants.{Partition, Task, Fra
 use Rattle.tape.specs.declared.command.Turn.{Turn}
 use Rattle.tape.specs.declared.command.Turn.TheVariants.{Start, AfterPartition, AfterTask, AfterFrame}
 use Rattle.tape.specs.declared.fault.Layer.{Layer}
-use Rattle.tape.specs.Commands.{task_command, partition_commands}
+use Rattle.tape.specs.Commands.{partition_commands}
 use Rattle.tape.specs.Decode.{before_frame, in_partition, after_frame}
 use Rattle.tape.specs.Loading.{Progress, newest, last_of, in_layer, obeyed, is_end}
 use Rattle.windows.proofs.Lists.{both_granted, last_or, windows_one_more}
@@ -89,14 +89,14 @@ with_newest m ks k =
     ap (λ js. set (m ++ (ks ∷ [])) (newest (m ++ (ks ∷ []))) (js ++ (k ∷ []))) (get_or_at m ks [] [] (newest (m ++ (ks ∷ []))) n)
     ∙ set_at m ks [] (ks ++ (k ∷ [])) (newest (m ++ (ks ∷ []))) n
 
-on_last : (m : Module) (ks : List ModelTask) (k : ModelTask) → flat_map partition_commands (m ++ ((ks ++ (k ∷ [])) ∷ [])) ≡ flat_map partition_commands (m ++ (ks ∷ [])) ++ (task_command k ∷ [])
+on_last : (m : Module) (ks : List ModelTask) (k : ModelTask) → flat_map partition_commands (m ++ ((ks ++ (k ∷ [])) ∷ [])) ≡ flat_map partition_commands (m ++ (ks ∷ [])) ++ (Task k ∷ [])
 on_last m ks k = simp (flat_map-append, append-nil, map_push, append_assoc)
 
-commands_newest : (m : Module) (k : ModelTask) → 0 < length m → flat_map partition_commands (with_task m (newest m) k) ≡ flat_map partition_commands m ++ (task_command k ∷ [])
+commands_newest : (m : Module) (k : ModelTask) → 0 < length m → flat_map partition_commands (with_task m (newest m) k) ≡ flat_map partition_commands m ++ (Task k ∷ [])
 commands_newest [] k h = absurd (omega arith)
 commands_newest (x ∷ xs) k h =
     let r = split_last x xs in
-    let P : Module → Type 0 = λ m. flat_map partition_commands (with_task m (newest m) k) ≡ flat_map partition_commands m ++ (task_command k ∷ []) in
+    let P : Module → Type 0 = λ m. flat_map partition_commands (with_task m (newest m) k) ≡ flat_map partition_commands m ++ (Task k ∷ []) in
     subst P (sym r.2) (ap (flat_map partition_commands) (with_newest r.0 r.1 k) ∙ on_last r.0 r.1 k)
 
 -- What a command adds, by the parts of what is read.
@@ -104,7 +104,7 @@ module _ (m : Module) (f : ℕ) (ws : List ModelWindow) (t : Turn) (o : Orderly 
   adds_partition : before_frame t ≡ true → flat_map partition_commands (with_partition m) ++ [] ≡ (flat_map partition_commands m ++ framed t f ws) ++ (Partition ∷ [])
   adds_partition b = rw (no_windows t m f ws b o).0 (simp (flat_map-append, append-nil))
 
-  adds_task : (k : ModelTask) → in_partition t ≡ true → flat_map partition_commands (with_task m (newest m) k) ++ [] ≡ (flat_map partition_commands m ++ framed t f ws) ++ (task_command k ∷ [])
+  adds_task : (k : ModelTask) → in_partition t ≡ true → flat_map partition_commands (with_task m (newest m) k) ++ [] ≡ (flat_map partition_commands m ++ framed t f ws) ++ (Task k ∷ [])
   adds_task k i =
       let p = a_partition t m ws i o in
       rw (no_windows t m f ws p.0 o).0 (rw (commands_newest m k p.1) (simp append-nil))
@@ -157,13 +157,13 @@ module _ (l : Progress) (o : Orderly l.turn l.partitions l.windows) (few : lengt
         few = few;
         accepted = tt;
       })
-  obeyed_adds (Task c t d) then i e r =
+  obeyed_adds (Task k) then i e r =
       let s = layer_ok _ _ _ then r in
       let p = a_partition l.turn l.partitions l.windows i o in
       let no = no_windows l.turn l.partitions l.frame l.windows p.0 o in
-      subst (Added l (Task c t d)) s.1 (record {
-        one_more = adds_task l.partitions l.frame l.windows l.turn o (task c t d) i;
-        orderly = (with_task_some l.partitions (newest l.partitions) (task c t d) p.1, no.1);
+      subst (Added l (Task k)) s.1 (record {
+        one_more = adds_task l.partitions l.frame l.windows l.turn o k i;
+        orderly = (with_task_some l.partitions (newest l.partitions) k p.1, no.1);
         few = few;
         accepted = tt;
       })

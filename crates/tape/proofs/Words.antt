@@ -1,6 +1,7 @@
 -- Numbers in two bytes, and the bytes of a command at the front of a tape.
 use Rattle.std.proofs.Common.{◌≡◌, ℕ, ◌+◌, ◌*◌, ◌/◌, ◌%◌, ◌<◌, ◌≤◌, List, [], ◌∷◌, ◌++◌, length, get_or, drop, sym, ap, ◌∙◌, arith}
 use Rattle.std.proofs.lemmas.List.{drop_more}
+use Rattle.model.specs.Modules.{task}
 use Rattle.tape.specs.declared.command.Command.TheVariants.{Task, Frame, Window}
 use Rattle.tape.specs.Commands.{word, bytes}
 use Rattle.tape.specs.Decode.{word_at}
@@ -20,7 +21,7 @@ module _ (xs : List ℕ) where
       let n : i + 1 + 1 ≡ i + 2 = omega arith in
       a ∙ (ap (λ ys. get_or xs i 0 ∷ ys) b ∙ (ap (λ k. get_or xs i 0 ∷ (get_or xs (i + 1) 0 ∷ drop k xs)) n ∙ ap (λ ws. ws ++ drop (i + 2) xs) (sym (word_of (get_or xs i 0) (get_or xs (i + 1) 0) f))))
 
-  pub task_there : 7 ≤ length xs → get_or xs 0 0 ≡ 0x54 → get_or xs 2 0 < 256 → get_or xs 4 0 < 256 → get_or xs 6 0 < 256 → xs ≡ bytes (Task (word_at xs 1) (word_at xs 3) (word_at xs 5)) ++ drop 7 xs
+  pub task_there : 7 ≤ length xs → get_or xs 0 0 ≡ 0x54 → get_or xs 2 0 < 256 → get_or xs 4 0 < 256 → get_or xs 6 0 < 256 → xs ≡ bytes (Task (task (word_at xs 1) (word_at xs 3) (word_at xs 5))) ++ drop 7 xs
   task_there h e c t d =
       drop_more xs 0 0 (omega arith)
       ∙ (ap (λ b. b ∷ drop 1 xs) e

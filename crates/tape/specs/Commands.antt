@@ -13,17 +13,14 @@ word n = n / 256 ∷ (n % 256 ∷ [])
 
 abbrev pub bytes : Command → List ℕ
 bytes Partition = 0x50 ∷ []
-bytes (Task c t d) = 0x54 ∷ (word c ++ (word t ++ word d))
+bytes (Task k) = 0x54 ∷ (word k.cost ++ (word k.period ++ word k.deadline))
 bytes (Frame f) = 0x46 ∷ word f
 bytes (Window w) = 0x57 ∷ (w.partition ∷ (word w.start ++ word w.length))
 bytes End = 0x45 ∷ []
 
 -- a partition, followed by its tasks
-abbrev pub task_command : ModelTask → Command
-task_command k = Task k.cost k.period k.deadline
-
 abbrev pub partition_commands : List ModelTask → List Command
-partition_commands ks = Partition ∷ map task_command ks
+partition_commands ks = Partition ∷ map Task ks
 
 abbrev pub partition_bytes : List ModelTask → List ℕ
 partition_bytes ks = flat_map bytes (partition_commands ks)

@@ -1,5 +1,6 @@
 -- How a tape is read.
 use Rattle.std.specs.Prelude.{ℕ, ◌+◌, ◌*◌, Bool, true, false, cond, List, length, drop, Some, None, Ok, Err, Option, Result, ◌==◌, nat_le, slice_index}
+use Rattle.model.specs.Modules.{task}
 use Rattle.tape.specs.declared.command.Command.{Command}
 use Rattle.tape.specs.declared.command.Command.TheVariants.{Partition, Task, Frame, Window, End}
 use Rattle.tape.specs.declared.command.Turn.{Turn}
@@ -47,7 +48,7 @@ whole n xs c = cond (nat_le n (length xs)) (Ok (c, drop n xs)) (Err 71)
 abbrev pub operands : List ℕ → Result (Command × List ℕ) ℕ
 operands xs =
     cond (slice_index xs 0 == 0x50) (whole 1 xs Partition)
-    (cond (slice_index xs 0 == 0x54) (whole 7 xs (Task (word_at xs 1) (word_at xs 3) (word_at xs 5)))
+    (cond (slice_index xs 0 == 0x54) (whole 7 xs (Task (task (word_at xs 1) (word_at xs 3) (word_at xs 5))))
     (cond (slice_index xs 0 == 0x46) (whole 3 xs (Frame (word_at xs 1)))
     (cond (slice_index xs 0 == 0x57) (whole 6 xs (Window (record { partition = slice_index xs 1; start = word_at xs 2; length = word_at xs 4 })))
     (cond (slice_index xs 0 == 0x45) (whole 1 xs End)

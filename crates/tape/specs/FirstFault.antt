@@ -14,7 +14,7 @@ use Rattle.tape.specs.RoundTrip.{Bytes}
 -- whether a command is in its turn
 abbrev pub follows : Turn → Command → Bool
 follows t Partition = before_frame t
-follows t (Task c p d) = in_partition t
+follows t (Task k) = in_partition t
 follows t (Frame f) = before_frame t
 follows t (Window w) = after_frame t
 follows t End = after_frame t

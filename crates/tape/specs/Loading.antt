@@ -3,7 +3,7 @@ use Rattle.std.specs.Prelude.{ℕ, zero, suc, ◌+◌, ◌-◌, Bool, true, fals
 use Rattle.std.specs.List.{slice_get}
 use Rattle.model.specs.declared.window.Window.{Window as ModelWindow}
 use Rattle.model.specs.Answers.{Answer, granted, refused, and_then}
-use Rattle.model.specs.Modules.{Module, task}
+use Rattle.model.specs.Modules.{Module}
 use Rattle.model.specs.WindowLists.{frame_answer, count_answer, window_answer, overlap}
 use Rattle.draft.specs.Drafts.{partition_answer, task_answer, with_partition, with_task}
 use Rattle.tape.specs.declared.command.Command.{Command}
@@ -55,9 +55,9 @@ obeyed l Partition =
       windows = l.windows;
       turn = AfterPartition;
     })
-obeyed l (Task c t d) =
-    in_layer Draft (task_answer l.partitions (newest l.partitions) (task c t d)) (record {
-      partitions = with_task l.partitions (newest l.partitions) (task c t d);
+obeyed l (Task k) =
+    in_layer Draft (task_answer l.partitions (newest l.partitions) k) (record {
+      partitions = with_task l.partitions (newest l.partitions) k;
       frame = l.frame;
       windows = l.windows;
       turn = AfterTask;
@@ -88,7 +88,7 @@ pub data Reading (A : Type 0) : Type 0 where
 
 abbrev pub is_end : Command → Bool
 is_end Partition = false
-is_end (Task c t d) = false
+is_end (Task k) = false
 is_end (Frame f) = false
 is_end (Window w) = false
 is_end End = true

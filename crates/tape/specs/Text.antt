@@ -11,7 +11,7 @@ three word a b c = word ++ (decimal a ++ (codes " " ++ (decimal b ++ (codes " " 
 
 abbrev pub printed : Command → List ℕ
 printed Partition = codes "partition"
-printed (Task c t d) = three (codes "task ") c t d
+printed (Task k) = three (codes "task ") k.cost k.period k.deadline
 printed (Frame f) = codes "frame " ++ decimal f
 printed (Window w) = three (codes "window ") w.partition w.start w.length
 printed End = codes "end"

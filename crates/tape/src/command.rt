@@ -11,11 +11,7 @@ use std::fmt;
 #[derive(Clone, Copy, PartialEq, Eq, Debug)]
 pub enum Command {
     Partition,
-    Task {
-        cost: u16,
-        period: u16,
-        deadline: u16,
-    },
+    Task(Task),
     Frame(u16),
     Window(Window),
     End,
@@ -23,16 +19,12 @@ pub enum Command {
 
 impl From<Task> for Command {
     ghost use Rattle.std.specs.Prelude.{◌≡◌};
-    ghost use Rattle.tape.specs.Commands.{task_command};
+    ghost use Rattle.tape.specs.declared.command.Command.TheVariants.{Task as task};
 
-    ghost from_gives = { λ k c. c ≡ task_command k };
+    ghost from_gives = { λ k c. c ≡ task k };
 
     fn from(task: Task) -> Command {
-        Command::Task {
-            cost: task.cost,
-            period: task.period,
-            deadline: task.deadline,
-        }
+        Command::Task(task)
     }
 }
 
@@ -56,16 +48,21 @@ impl fmt::Display for Command {
     fn fmt<W: fmt::Write>(&self, f: &mut fmt::Formatter<W>) -> fmt::Result {
         match self {
             Command::Partition => write!(f, "partition"),
-            Command::Task {
-                cost,
-                period,
-                deadline,
-            } => write!(f, "task {cost} {period} {deadline}"),
+            Command::Task(
+                Task {
+                    cost,
+                    period,
+                    deadline,
+                },
+            ) => write!(f, "task {cost} {period} {deadline}"),
             Command::Frame(frame) => write!(f, "frame {frame}"),
-            Command::Window(window) => {
-                let (partition, start, length) = (window.partition, window.start, window.length);
-                write!(f, "window {partition} {start} {length}")
-            }
+            Command::Window(
+                Window {
+                    partition,
+                    start,
+                    length,
+                },
+            ) => write!(f, "window {partition} {start} {length}"),
             Command::End => write!(f, "end"),
         }
     }
@@ -108,12 +105,12 @@ fn operands(tape: &[u8]) -> Result<(Command, &[u8]), TapeFault>
     match tape {
         [0x50, rest @ ..] => Ok((Command::Partition, rest)),
         [0x54, c1, c0, t1, t0, d1, d0, rest @ ..] => {
-            let command = Command::Task {
+            let task = Task {
                 cost: word(c1, c0),
                 period: word(t1, t0),
                 deadline: word(d1, d0),
             };
-            Ok((command, rest))
+            Ok((Command::Task(task), rest))
         }
         [0x46, f1, f0, rest @ ..] => Ok((Command::Frame(word(f1, f0)), rest)),
         [0x57, partition, s1, s0, l1, l0, rest @ ..] => {

@@ -4,7 +4,7 @@ ghost use Rattle.tape_reader.specs.Loads.{progress, Obeys};
 ghost use Rattle.tape.specs.Loading.{nothing_read, obeyed};
 
 use draft::Draft;
-use model::Window;
+use model::{Task, Window};
 use std::alloc::Global;
 use tape::{Command, CommandFault, Turn};
 use windows::{check_count, check_frame, check_window};
@@ -37,11 +37,12 @@ impl Load {
         Ok(())
     }
 
-    fn add_task(&mut self, cost: u16, period: u16, deadline: u16) -> Result<(), CommandFault>
-        ensures { Obeys (Command.Task cost period deadline) result (obeyed (progress self.old) (Command.Task cost period deadline)) (progress self.new) }
+    fn add_task(&mut self, task: Task) -> Result<(), CommandFault>
+        ensures { Obeys (Command.Task task) result (obeyed (progress self.old) (Command.Task task)) (progress self.new) }
     {
         let newest = self.draft.partition_count().saturating_sub(1);
-        self.draft.add_task(newest, cost, period, deadline)?;
+        self.draft
+            .add_task(newest, task.cost, task.period, task.deadline)?;
         self.turn = Turn::AfterTask;
         Ok(())
     }
@@ -73,11 +74,7 @@ impl Load {
     {
         match command {
             Command::Partition => self.add_partition(),
-            Command::Task {
-                cost,
-                period,
-                deadline,
-            } => self.add_task(cost, period, deadline),
+            Command::Task(task) => self.add_task(task),
             Command::Frame(frame) => self.set_frame(frame),
             Command::Window(window) => self.add_window(window),
             Command::End => Ok(()),

@@ -70,15 +70,11 @@ impl Cursor<'_> {
     {
         match command {
             Command::Partition => self.put(&[0x50]),
-            Command::Task {
-                cost,
-                period,
-                deadline,
-            } => {
+            Command::Task(task) => {
                 self.put(&[0x54]);
-                self.put_word(cost);
-                self.put_word(period);
-                self.put_word(deadline);
+                self.put_word(task.cost);
+                self.put_word(task.period);
+                self.put_word(task.deadline);
             }
             Command::Frame(frame) => {
                 self.put(&[0x46]);
