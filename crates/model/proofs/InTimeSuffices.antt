@@ -132,7 +132,7 @@ kept_owed c x y (inr e) = rw e (omega arith)
 kept_job : (x y : TaskState) (b : Job) → Kept x y → y.job ≡ Some b → x.job ≡ Some b
 unfolding closed
 kept_job x y b (inl e) q = ap job_of (sym e) ∙ q
-kept_job x y b (inr e) q = cc (ap job_of (sym e) ∙ q)
+kept_job x y b (inr e) q = cc
 
 kept_when : (t : Bool) (x : TaskState) → Kept x (cond t (closed x) x)
 kept_when true x = inr refl

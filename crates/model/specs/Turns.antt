@@ -10,12 +10,8 @@ abbrev pub job_name : Progress → List ℕ
 job_name still_open = codes "open"
 job_name spent = codes "spent"
 
--- owner, task and job
-abbrev pub columns : List ℕ → List ℕ → List ℕ → List ℕ
-columns owner task job = owner ++ (codes " " ++ (task ++ (codes " " ++ job)))
-
 -- what a turn is printed as
 abbrev pub turn_text : Turn → List ℕ
-turn_text spare = columns (codes "-") (codes "-") (codes "-")
-turn_text (idle p) = columns (decimal p) (codes "-") (codes "-")
-turn_text (ran p i f) = columns (decimal p) (decimal i) (job_name f)
+turn_text spare = codes "- - -"
+turn_text (idle p) = decimal p ++ codes " - -"
+turn_text (ran p i f) = decimal p ++ (codes " " ++ (decimal i ++ (codes " " ++ job_name f)))
