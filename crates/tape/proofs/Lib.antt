@@ -3,6 +3,7 @@ pub mod Commands
 pub mod FirstFault
 pub mod Lengths
 pub mod Lists
+pub mod Parts
 pub mod Plays
 pub mod Reading
 pub mod RoundTrip

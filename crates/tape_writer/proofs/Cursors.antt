@@ -1,16 +1,15 @@
 -- What is put at a cursor, part by part.
 use Rattle.std.proofs.Common.{◌≡◌, ℕ, ◌+◌, ◌<◌, ◌≤◌, List, [], ◌∷◌, ◌++◌, map, length, get_or, take, drop, sym, refl, ap, ◌∙◌, subst, add-zero, arith}
 use Rattle.std.proofs.lemmas.List.{append_assoc, append-nil, length-append, drop-drop, take_all, take_more, flat_map_more}
-use Rattle.std.proofs.lemmas.List.Folds.{length-flat_map-take, flat_map-map}
-use Rattle.std.proofs.lemmas.List.Concat.{flat_map-append}
+use Rattle.std.proofs.lemmas.List.Folds.{length-flat_map-take}
 use Rattle.std.specs.List.{flat_map}
 use Rattle.model.specs.declared.window.Window.{Window}
 use Rattle.model.specs.Modules.{Module}
 use Rattle.draft.specs.declared.draft.Partition.{Partition}
 use Rattle.draft.specs.Drafts.{tasks_in}
 use Rattle.tape.specs.declared.command.Command.TheVariants.{Frame, End, Window as window}
-use Rattle.tape.specs.Commands.{bytes, partition_commands, partition_bytes, encode}
-use Rattle.tape.proofs.Lists.{flat_map-flat_map}
+use Rattle.tape.specs.Commands.{bytes, partition_bytes, encode}
+use Rattle.tape.proofs.Parts.{commands_parts}
 use Rattle.tape_writer.specs.declared.writer.Cursor.{Cursor}
 use Rattle.tape_writer.specs.Cursors.{Room, Puts}
 
@@ -52,13 +51,6 @@ module _ {X : Type 0} (f : X → List ℕ) (xs : List X) (i : ℕ) (a b : Cursor
   pub puts_all : length xs ≤ i → Puts (flat_map f xs) a b
   puts_all h = subst (λ ys. Puts (flat_map f ys) a b) (take_all i xs h) p
 
--- the bytes of a tape, part by part
-pub encode_parts : (ps : List Partition) (f : ℕ) (ws : List Window) → encode (map tasks_in ps) f ws ≡ flat_map (λ p. partition_bytes (tasks_in p)) ps ++ (bytes (Frame f) ++ (flat_map (λ w. bytes (window w)) ws ++ bytes End))
-encode_parts ps f ws =
-    flat_map-append bytes (flat_map partition_commands (map tasks_in ps)) (Frame f ∷ (map window ws ++ (End ∷ [])))
-    ∙ (ap (λ bs. bs ++ (bytes (Frame f) ++ flat_map bytes (map window ws ++ (End ∷ [])))) (flat_map-flat_map bytes partition_commands (map tasks_in ps) ∙ flat_map-map partition_bytes tasks_in ps)
-    ∙ ap (λ bs. flat_map (λ p. partition_bytes (tasks_in p)) ps ++ (bytes (Frame f) ++ bs)) (flat_map-append bytes (map window ws) (End ∷ []) ∙ ap (λ bs. bs ++ bytes End) (flat_map-map bytes window ws)))
-
 -- a tape, put part by part
 module _ (ps : List Partition) (f : ℕ) (ws : List Window) (m : Module) (is : map tasks_in ps ≡ m) (a : Cursor) where
   abbrev Parts : List ℕ
@@ -71,7 +63,7 @@ module _ (ps : List Partition) (f : ℕ) (ws : List Window) (m : Module) (is : m
   Windows = flat_map (λ w. bytes (window w)) ws
 
   whole : encode m f ws ≡ Parts ++ (Frames ++ (Windows ++ bytes End))
-  whole = ap (λ m. encode m f ws) (sym is) ∙ encode_parts ps f ws
+  whole = commands_parts bytes ps m f ws is
 
   pub tape_put : (b c d e : Cursor) → Puts Parts a b → Puts Frames b c → Puts Windows c d → Puts (bytes End) d e → Puts (encode m f ws) a e
   tape_put b c d e p q r s =
