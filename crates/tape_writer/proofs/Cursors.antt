@@ -1,6 +1,6 @@
 -- What is put at a cursor, part by part.
-use Rattle.std.proofs.Common.{◌≡◌, ℕ, ◌+◌, ◌<◌, ◌≤◌, List, [], ◌∷◌, ◌++◌, map, length, get_or, take, drop, sym, refl, ap, ◌∙◌, subst, add-zero, arith}
-use Rattle.std.proofs.lemmas.List.{append_assoc, append-nil, length-append, drop-drop, take_all, take_more, flat_map_more}
+use Rattle.std.proofs.Common.{◌≡◌, ℕ, ◌+◌, ◌<◌, ◌≤◌, List, [], ◌∷◌, ◌++◌, map, length, get_or, take, drop, sym, ap, ◌∙◌, subst, arith}
+use Rattle.std.proofs.lemmas.List.{append_assoc, length-append, drop-drop, take_all, take_more, flat_map_more}
 use Rattle.std.proofs.lemmas.List.Folds.{length-flat_map-take}
 use Rattle.std.specs.List.{flat_map}
 use Rattle.model.specs.declared.window.Window.{Window}
@@ -12,9 +12,6 @@ use Rattle.tape.specs.Commands.{bytes, partition_bytes, encode}
 use Rattle.tape.proofs.Parts.{commands_parts}
 use Rattle.tape_writer.specs.declared.writer.Cursor.{Cursor}
 use Rattle.tape_writer.specs.Cursors.{Room, Puts}
-
-pub puts_none : (a : Cursor) → Puts [] a a
-puts_none a = record { same = refl; size = refl; at = sym (add-zero a.at); front = sym (append-nil (take a.at a.buffer.now)); back = refl }
 
 pub puts_more : (bs es : List ℕ) (a b c : Cursor) → Puts bs a b → Puts es b c → Puts (bs ++ es) a c
 puts_more bs es a b c p q =
