@@ -103,5 +103,5 @@ module _ {T D : Type 0} (means : T → Timetable) (rule : D → DispatchRule) (x
       looks r by = asks d x r by (ap (state now) (sym (ap (set ts i) here ∙ set-get_or ts i d))) refl
 
       -- its tasks are those of the sealed module
-      pub stays_level : (t : JobTable) (r : Result Reply Refusal) → TableAnswered d t now a r → map tasks_in (set ts i t) ≡ sealed_module x.sealed
-      stays_level t r by = kept ts _ x.level i d is_there here t by.tasks
+      pub stays_level : (t : JobTable) → tasks_in t ≡ tasks_in d → map tasks_in (set ts i t) ≡ sealed_module x.sealed
+      stays_level t e = kept ts _ x.level i d is_there here t e

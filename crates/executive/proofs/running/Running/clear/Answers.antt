@@ -11,7 +11,7 @@ returns-in_err-number g c =
 
 pub invariant_of-self : goal.invariant_of-self
 invariant_of-self g c =
-    record { level = stays_level g.T.Timetable.means g.D.Dispatch.rule c.args.self.now c.args.partition Clear c.in_ok-number.number c.in_ok-number.ensures _ c.index_mut.ensures.value c.clear.new.self _ (c.clear.ensures c.args.self.now.clock) }
+    record { level = stays_level g.T.Timetable.means g.D.Dispatch.rule c.args.self.now c.args.partition Clear c.in_ok-number.number c.in_ok-number.ensures _ c.index_mut.ensures.value c.clear.new.self (c.clear.ensures c.args.self.now.clock).tasks }
 
 pub returns : goal.returns
 returns g c =
