@@ -31,9 +31,9 @@ fn neighbours_of_module_a(rt: HostRuntime) -> Result<(), Fail> {
     for (partitions, listed, by_deadline) in VERDICTS {
         let draft = draft_of(rt.alloc(), partitions)?;
         let table = WindowList::open(rt.alloc(), 10, &[window(0, 0, 4), window(1, 4, 1)])?;
-        assert!(rt; verdict(&draft, &table, &Listed) == listed);
-        assert!(rt; examine(&draft, &table, &Listed).verdict() == listed);
-        assert!(rt; verdict(&draft, &table, &ByDeadline) == by_deadline);
+        assert_eq!(rt; verdict(&draft, &table, &Listed), listed);
+        assert_eq!(rt; examine(&draft, &table, &Listed).verdict(), listed);
+        assert_eq!(rt; verdict(&draft, &table, &ByDeadline), by_deadline);
     }
     Ok(())
 }
@@ -50,8 +50,8 @@ fn foreign_places(rt: HostRuntime) -> Result<(), Fail> {
     for (partitions, _, _) in VERDICTS {
         let draft = draft_of(rt.alloc(), partitions)?;
         let table = WindowList::open(rt.alloc(), 10, &windows)?;
-        assert!(rt; verdict(&draft, &table, &Listed) == Verdict::Foreign(5));
-        assert!(rt; verdict(&draft, &table, &ByDeadline) == Verdict::Foreign(5));
+        assert_eq!(rt; verdict(&draft, &table, &Listed), Verdict::Foreign(5));
+        assert_eq!(rt; verdict(&draft, &table, &ByDeadline), Verdict::Foreign(5));
     }
     Ok(())
 }

@@ -7,3 +7,15 @@ pub struct Window {
     pub start: u16,
     pub length: u16,
 }
+
+impl Window {
+    ghost use Rattle.std.specs.Prelude.{◌≡◌};
+    ghost use Rattle.model.specs.WindowLists.{end_of};
+
+    // The first place after the window.
+    pub fn end(self) -> u32
+        ensures { result ≡ end_of self }
+    {
+        u32::from(self.start) + u32::from(self.length)
+    }
+}

@@ -79,11 +79,7 @@ fn define<T: Timetable>(
 
 // How many windows are the shortest, and the length of the last of eight.
 fn shortest(draft: &Draft) -> Result<(u8, u16), PlanRefusal> {
-    let mut windows = [Window {
-        partition: 0,
-        start: 0,
-        length: 0,
-    }; 8];
+    let mut windows = [Window::default(); 8];
     let count = shortest_windows(draft, &Listed, 1024, &mut windows)?;
     Ok((count, windows[7].length))
 }

@@ -1,8 +1,8 @@
 // A window list: a place belongs to the window that covers it.
-ghost use Rattle.std.specs.Prelude.{◌≡◌, ℕ, List, true, MatchResult, nat_le};
+ghost use Rattle.std.specs.Prelude.{◌≡◌, ℕ, List, true, MatchResult};
 ghost use Rattle.model.specs.Answers.{granted, refused};
 ghost use Rattle.model.specs.Timetables.{Timetable as Meaning, opened, window_timetable};
-ghost use Rattle.model.specs.WindowLists.{end_of, list_answer, overlap};
+ghost use Rattle.model.specs.WindowLists.{list_answer, overlap};
 ghost use Rattle.timetable.specs.Granted.{is_granted};
 ghost use Rattle.windows.specs.Refusals.{told};
 
@@ -10,12 +10,6 @@ use crate::Timetable;
 use model::Window;
 use std::alloc::{AllocError, Global};
 use windows::{WindowRefusal, check_list};
-
-fn ended(window: Window, place: u64) -> bool
-    ensures { result ≡ nat_le (end_of window) place }
-{
-    u64::from(window.start) + u64::from(window.length) <= place
-}
 
 // The check allows the windows.
 #[derive(Drop)]
@@ -73,7 +67,9 @@ impl Timetable for WindowList {
     // The first window that ends after the place, if it has begun by then.
     fn owner(&self, tick: u64) -> Option<u8> {
         let place = tick % u64::from(self.frame);
-        let next = self.windows.partition_point(|window| ended(*window, place));
+        let next = self
+            .windows
+            .partition_point(|window| u64::from(window.end()) <= place);
         self.windows
             .get(next)
             .filter(|window| u64::from(window.start) <= place)

@@ -1,6 +1,6 @@
 // The checks of a frame, of one window after another, and of a whole list. Each only looks.
 ghost use Rattle.std.specs.Prelude.{◌≡◌, length};
-ghost use Rattle.model.specs.WindowLists.{end_of, frame_answer, count_answer, window_answer, list_answer, overlap};
+ghost use Rattle.model.specs.WindowLists.{frame_answer, count_answer, window_answer, list_answer, overlap};
 ghost use Rattle.windows.specs.Refusals.{told};
 
 use crate::WindowRefusal;
@@ -28,13 +28,6 @@ pub fn check_count(count: usize) -> Result<(), WindowRefusal>
     }
 }
 
-// The first place after the window.
-fn end(window: Window) -> u32
-    ensures { result ≡ end_of window }
-{
-    u32::from(window.start) + u32::from(window.length)
-}
-
 // Window `index` of a list, after the window before it, if there is one: 53, then 54.
 pub fn check_window(
     frame: u16,
@@ -44,10 +37,10 @@ pub fn check_window(
 ) -> Result<(), WindowRefusal>
     ensures { told result ≡ window_answer overlap frame index previous window }
 {
-    if window.length == 0 || window.partition > 7 || end(window) > u32::from(frame) {
+    if window.length == 0 || window.partition > 7 || window.end() > u32::from(frame) {
         return Err(WindowRefusal::Misplaced { window: index });
     }
-    if previous.is_some_and(|before| end(before) > u32::from(window.start)) {
+    if previous.is_some_and(|before| before.end() > u32::from(window.start)) {
         return Err(WindowRefusal::Overlap { window: index });
     }
     Ok(())
