@@ -67,8 +67,9 @@ pub fn shortest_windows<O: LocalOrder>(
         frame,
     };
     let shares = framed.least_shares()?;
-    if !fit(&shares, frame) {
+    let shares = &shares[..draft.partition_count() as usize];
+    if !fit(shares, frame) {
         return Err(PlanRefusal::ExceedsFrame);
     }
-    Ok(write(&shares, windows))
+    Ok(write(shares, windows))
 }

@@ -3,7 +3,6 @@ ghost use Rattle.std.specs.Prelude.{◌≤◌};
 
 use crate::PlanRefusal;
 use analysis::{Places, passes};
-use arrayvec::ArrayVec;
 use draft::Draft;
 use order::LocalOrder;
 
@@ -17,7 +16,7 @@ pub struct FramedDraft<'a, O> {
 }
 
 impl<O: LocalOrder> FramedDraft<'_, O> {
-    ghost use Rattle.std.specs.Prelude.{◌≡◌, MatchResult};
+    ghost use Rattle.std.specs.Prelude.{◌≡◌, MatchResult, length, take};
     ghost use Rattle.model.specs.Answers.{granted, refused};
     ghost use Rattle.model.specs.InTime.{all_in_time};
     ghost use Rattle.model.specs.Modules.{tasks_of};
@@ -58,16 +57,16 @@ impl<O: LocalOrder> FramedDraft<'_, O> {
         Some(low)
     }
 
-    // The least q of each partition, by its number; 61 for the lowest partition that has none.
-    pub(crate) fn least_shares(&self) -> Result<ArrayVec<u16, 8>, PlanRefusal>
-        ensures { MatchResult result (λ qs. least_qs (O.LocalOrder.order self.now.order.now) self.now.frame 0 (module_of self.now.draft.now) ≡ granted qs.items) (λ e. least_qs (O.LocalOrder.order self.now.order.now) self.now.frame 0 (module_of self.now.draft.now) ≡ refused (number e) (values e)) }
+    // The least q of each partition, by its number, and 0 after them; 61 for the lowest partition that has none.
+    pub(crate) fn least_shares(&self) -> Result<[u16; 8], PlanRefusal>
+        ensures { MatchResult result (λ qs. least_qs (O.LocalOrder.order self.now.order.now) self.now.frame 0 (module_of self.now.draft.now) ≡ granted (take (length (module_of self.now.draft.now)) qs)) (λ e. least_qs (O.LocalOrder.order self.now.order.now) self.now.frame 0 (module_of self.now.draft.now) ≡ refused (number e) (values e)) }
     {
-        let mut shares = ArrayVec::new();
+        let mut shares = [0; 8];
         for partition in 0..self.draft.partition_count() {
             let share = self
                 .least_share(partition)
                 .ok_or(PlanRefusal::Infeasible { partition })?;
-            shares.push(share);
+            shares[partition as usize] = share;
         }
         Ok(shares)
     }

@@ -1,8 +1,8 @@
-use Rattle.std.proofs.Common.{◌≡◌, [], leb, sum, MatchResult, Ok, Err, Result, sym, ap, ◌∙◌, rules}
+use Rattle.std.proofs.Common.{◌≡◌, [], MatchResult, take, Ok, Err, Result, sym, ap, ◌∙◌, arith, rules}
 use Rattle.std.proofs.lemmas.Result.{err_from_is_err_and}
 use Rattle.model.specs.Answers.{granted}
 use Rattle.model.proofs.Timetables.{frame_granted}
-use Rattle.draft.proofs.Modules.{draft_within}
+use Rattle.draft.proofs.Modules.{draft_within, module_length}
 use Rattle.planner.specs.declared.refusal.PlanRefusal.TheVariants.{FrameLength}
 use Rattle.planner.proofs.Plans.{frame_good, frame_refused, granted_as, plan_exceeds, plan_granted, plan_infeasible, plan_short, plan_unframed, refused_as}
 use Rattle.planner.proofs.plan.shortest_windows.Goals as goal
@@ -33,15 +33,17 @@ returns-in_err-shares g c =
     let p = err_from_is_err_and c.from_residual-in_err-shares.result c.from_residual-in_err-shares.ensures.1 in
     rw (p.1, p.2) (refused_as _ _ _ _ (plan_infeasible _ _ _ _ framed c.if-windows-lt8.false _ _ c.in_err-shares.ensures))
 
+pub slice_bounds-shares-end : goal.slice_bounds-shares-end
+slice_bounds-shares-end g c = let d = c.args.draft.now in omega (arith, module_length d, d.few)
+
 pub returns-then-not-fit : goal.returns-then-not-fit
 returns-then-not-fit g c =
     let framed = frame_good c.args.frame _ _ c.map_err.ensures.variant c.check_frame.ensures _ c.in_ok-map_err.was in
-    let are = c.in_ok-shares.ensures ∙ ap granted (sym c.deref.ensures.0) in
+    let are = c.in_ok-shares.ensures ∙ ap (λ n. granted (take n c.in_ok-shares.shares)) (sym c.partition_count.ensures) in
     refused_as _ _ 62 [] (plan_exceeds _ _ _ _ framed c.if-windows-lt8.false _ are c.if-not-fit.ensures)
 
 pub returns : goal.returns
 returns g c =
     let framed = frame_good c.args.frame _ _ c.map_err.ensures.variant c.check_frame.ensures _ c.in_ok-map_err.was in
-    let are = c.in_ok-shares.ensures ∙ ap granted (sym c.deref-2.ensures.0) in
-    let fits = c.if-not-fit.ensures ∙ ap (λ qs. leb (sum qs) c.args.frame) (c.deref.ensures.0 ∙ sym c.deref-2.ensures.0) in
-    granted_as _ _ _ _ _ _ _ _ (draft_within c.args.draft.now) (plan_granted _ _ _ _ framed c.if-windows-lt8.false _ are fits) c.write.ensures.count c.write.ensures.after
+    let are = c.in_ok-shares.ensures ∙ ap (λ n. granted (take n c.in_ok-shares.shares)) (sym c.partition_count.ensures) in
+    granted_as _ _ _ _ _ _ _ _ (draft_within c.args.draft.now) (plan_granted _ _ _ _ framed c.if-windows-lt8.false _ are c.if-not-fit.ensures) c.write.ensures.count c.write.ensures.after

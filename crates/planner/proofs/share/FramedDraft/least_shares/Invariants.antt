@@ -1,4 +1,4 @@
-use Rattle.std.proofs.Common.{◌≡◌, length, drop}
+use Rattle.std.proofs.Common.{◌≡◌, length, take, drop}
 use Rattle.model.specs.Planning.{least_qs}
 use Rattle.draft.specs.Drafts.{module_of}
 use Rattle.planner.proofs.Windows.{after}
@@ -8,4 +8,4 @@ abbrev pub invariant-loop-partition : goal.invariant-loop-partition
 invariant-loop-partition g l =
     let order = g.O.LocalOrder.order l.self.order.now in
     let m = module_of l.self.draft.now in
-    (length l.shares.items ≡ l.partition) × (least_qs order l.self.frame 0 m ≡ after l.shares.items (least_qs order l.self.frame l.partition (drop l.partition m)))
+    (length l.shares ≡ 8) × (least_qs order l.self.frame 0 m ≡ after (take l.partition l.shares) (least_qs order l.self.frame l.partition (drop l.partition m)))
