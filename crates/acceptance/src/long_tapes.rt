@@ -74,7 +74,7 @@ fn sixty_fifth_window(rt: HostRuntime) -> Result<(), Fail> {
         frame(&mut tape, 65, bad)?;
         assert!(rt;
             is_listed(rt.alloc(), &tape, want)?,
-            "window {bad} of partition 8"
+            "windows of partition 0, but number {bad}"
         );
     }
     Ok(())

@@ -26,7 +26,7 @@ pub(crate) fn draft_of(heap: Global, partitions: &[Tasks]) -> Result<Draft, Draf
     Ok(draft)
 }
 
-pub(crate) const fn window(partition: u8, start: u16, length: u16) -> Window {
+pub(crate) fn window(partition: u8, start: u16, length: u16) -> Window {
     Window {
         partition,
         start,

@@ -19,12 +19,6 @@ abbrev pub TriedPass : Partition → Bool → ℕ → ℕ → ℕ → Type 0
 TriedPass p first i r n = (s : ℕ) → s < n → tried p.owns first s ≡ true → PassesIn p i r s
 
 module _ (p : Partition) (first : Bool) (i r : ℕ) where
-  pub tried_skip : (n : ℕ) → TriedPass p first i r n → tried p.owns first n ≡ false → TriedPass p first i r (n + 1)
-  tried_skip n h e s l t = elim (cases_eq s n) [
-    | inl z ↦ absurd (both_ways (tried p.owns first n) e (ap (tried p.owns first) (sym z) ∙ t))
-    | inr z ↦ h s (omega arith) t
-  ]
-
   pub tried_more : (n q : ℕ) → TriedPass p first i r n → r ≤ q → PassesIn p i q n → TriedPass p first i q (n + 1)
   tried_more n q h l v s m t = elim (cases_eq s n) [
     | inl z ↦ passes_at p i q (sym z) v

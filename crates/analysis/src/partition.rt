@@ -19,7 +19,7 @@ pub struct Partition<'a, O> {
 }
 
 impl<'a, O: LocalOrder> Partition<'a, O> {
-    ghost use Rattle.std.specs.Prelude.{ℕ, ◌<◌, ◌≤◌, length, MatchOption, Some, option_map};
+    ghost use Rattle.std.specs.Prelude.{ℕ, ◌<◌, ◌≤◌, length, MatchOption, Some};
     ghost use Rattle.model.specs.InTime.{partition_of};
     ghost use Rattle.model.specs.Modules.{tasks_of};
     ghost use Rattle.model.specs.Orders.{record_of};

@@ -1,7 +1,7 @@
 // What can happen to a task. The task's state, resting or open, is matched together with the event and changed in its
 // place.
-ghost use Rattle.std.specs.Prelude.{◌≡◌, ◌<◌, MatchResult, length, nat_le, slice_set};
-ghost use Rattle.model.specs.Machine.{ready, progress};
+ghost use Rattle.std.specs.Prelude.{◌≡◌, ◌<◌, MatchResult, length, nat_le};
+ghost use Rattle.model.specs.Machine.{ready, released, progress};
 ghost use Rattle.jobs.specs.Events.{changed, outcome_in, task_at, with_event};
 
 use crate::running_task::RunningTask;
@@ -21,6 +21,20 @@ fn may_release(last: Option<u64>, period: u16, tick: u64) -> bool
     ensures { result ≡ nat_le (ready period last) tick }
 {
     last.is_none_or(|last| last <= tick && u64::from(period) <= tick - last)
+}
+
+// A task that is released now: a job opens that has run no tick.
+#[tactic(auto, unfolding(model::specs::Machine::released))]
+fn released(now: u64) -> TaskState
+    ensures { result ≡ released now }
+{
+    TaskState {
+        last: Some(now),
+        job: Some(Job {
+            released: now,
+            ran: 0,
+        }),
+    }
 }
 
 // The event happens to a task. A release answers in how many ticks the job is due, the other events how many ticks the
@@ -45,13 +59,7 @@ pub(crate) fn happen(tasks: &mut [RunningTask], task: u8, event: Event) -> Resul
             if !may_release(running.state.last, period, now) {
                 return Err(Refusal::TooSoon);
             }
-            running.state = TaskState {
-                last: Some(now),
-                job: Some(Job {
-                    released: now,
-                    ran: 0,
-                }),
-            };
+            running.state = released(now);
             Ok(deadline)
         }
         (None, Event::End) => Err(Refusal::NoOpenJob),

@@ -28,7 +28,7 @@ fn write_windows(text: &mut String, windows: &[Window]) -> Result<(), AllocError
     ensures { OnOk result (string_bytes text.new ≡ string_bytes text.old ++ window_lines windows.now) }
 {
     for window in windows {
-        writeln!(text, "{}", Command::Window(*window))?;
+        writeln!(text, "{}", Command::from(*window))?;
     }
     Ok(())
 }

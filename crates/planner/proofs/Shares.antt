@@ -73,9 +73,6 @@ module _ (order : Order) (p : ℕ) (ks : List Task) (f : ℕ) where
         }));
   }
 
-  pub bisects_all : true ≡ enough f → Bisects 0 f
-  bisects_all e = bisects 0 f (omega arith) (omega arith) (λ q l. absurd (omega arith)) (sym e)
-
   module _ (low high middle : ℕ) (b : Bisects low high) (least : low ≤ middle) (most : middle < high) where
     pub lower_half : true ≡ enough middle → Bisects low middle
     lower_half e = bisects low middle least (omega (arith, b.fits)) b.too_few (sym e)

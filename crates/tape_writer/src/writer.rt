@@ -110,7 +110,7 @@ impl Cursor<'_> {
         }
         self.put_command(Command::Frame(frame));
         for window in windows {
-            self.put_command(Command::Window(*window));
+            self.put_command(Command::from(*window));
         }
         self.put_command(Command::End);
     }

@@ -32,11 +32,11 @@ put_command-requires-in-loop-window c =
     let ws = c.args.windows.now in
     let put = puts_all (λ p. partition_bytes (tasks_in p)) ps c.loop-partition.partition-index c.args.self.now c.loop-partition.self c.loop-partition.invariant c.loop-partition-test.false in
     let room = windows_room ps c.args.frame ws (module_of c.args.draft.now) c.partitions-partition-items.ensures c.args.self.now c.requires c.loop-partition.self put c.put_command.new.self c.put_command.ensures in
-    room_next (λ w. bytes (Window w)) ws c.loop-window.window-index c.put_command.new.self c.loop-window.self c.loop-window.invariant (get_or ws c.loop-window.window-index no_window) no_window c.loop-window-test.true refl room
+    rw c.from.ensures (room_next (λ w. bytes (Window w)) ws c.loop-window.window-index c.put_command.new.self c.loop-window.self c.loop-window.invariant (get_or ws c.loop-window.window-index no_window) no_window c.loop-window-test.true refl room)
 
 pub loop-window-preserved : goal.loop-window-preserved
 loop-window-preserved c =
-    puts_next (λ w. bytes (Window w)) c.args.windows.now c.loop-window.window-index c.put_command.new.self c.loop-window.self c.loop-window.invariant (get_or c.args.windows.now c.loop-window.window-index no_window) no_window _ c.loop-window-test.true refl c.put_command-in-loop-window.ensures
+    puts_next (λ w. bytes (Window w)) c.args.windows.now c.loop-window.window-index c.put_command.new.self c.loop-window.self c.loop-window.invariant _ no_window _ c.loop-window-test.true refl (rw c.from.ensures at c.put_command-in-loop-window.ensures)
 
 pub put_command-requires-2 : goal.put_command-requires-2
 put_command-requires-2 c =
