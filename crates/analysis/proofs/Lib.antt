@@ -5,3 +5,4 @@ pub mod Placing
 pub mod Tried
 pub mod Responding
 pub mod Verdicts
+pub mod Options

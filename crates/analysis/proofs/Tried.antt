@@ -1,6 +1,6 @@
 -- The starts that are tried decide the others.
 use Rattle.std.proofs.Common.{◌≡◌, ℕ, zero, suc, ◌+◌, ◌-◌, ◌<◌, ◌≤◌, Bool, true, false, not, eqb, sym, refl, ap, ◌∙◌, inl, inr, arith}
-use Rattle.std.proofs.lemmas.Bool.{and_from, both_ways, cases_Bool, cases_eq, or_right}
+use Rattle.std.proofs.lemmas.Bool.{and_from, cases_Bool, cases_eq, or_right}
 use Rattle.model.specs.InTime.{Partition, PassesIn}
 use Rattle.model.specs.SupplyFacts.{Repeats}
 use Rattle.model.proofs.Gaps.{gaps_suffice, later, passes_at}

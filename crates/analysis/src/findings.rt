@@ -26,11 +26,7 @@ impl Findings {
     pub fn on(&self, partition: u8) -> Option<LateTask>
         ensures { result ≡ found_on self.now partition }
     {
-        if partition < 8 {
-            self.partitions[partition as usize]
-        } else {
-            None
-        }
+        self.partitions.get(partition as usize).copied().flatten()
     }
 
     // A foreign place first, then the finding on the lowest partition that has one.

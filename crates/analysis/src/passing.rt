@@ -25,10 +25,9 @@ pub fn passes<O: LocalOrder>(
     ensures { result ≡ passes_at (partition_of (O.LocalOrder.order order.now) partition (tasks_of (module_of draft.now) partition) (ticks_of places.now)) task start }
 {
     let partition = Partition::of(draft, order, partition, places);
-    match partition.task(usize::from(task)) {
-        Some(task) => task.passes(start),
-        None => false,
-    }
+    partition
+        .task(usize::from(task))
+        .is_some_and(|task| task.passes(start))
 }
 
 // The first start of the frame at which a task does not pass; none if it is in time. A task that is not there never passes.
@@ -44,8 +43,7 @@ pub fn failing_start<T: Timetable, O: LocalOrder>(
     let owners = Owners::draw(table);
     let places = Places::of(partition, &owners);
     let partition = Partition::of(draft, order, partition, &places);
-    match partition.task(usize::from(task)) {
-        Some(task) => task.first_failing_start(),
-        None => Some(0),
-    }
+    partition
+        .task(usize::from(task))
+        .map_or(Some(0), |task| task.first_failing_start())
 }

@@ -1,4 +1,4 @@
-use Rattle.std.proofs.Common.{ℕ, ◌≤◌, sym, ap, ◌∙◌, ap₂, arith}
+use Rattle.std.proofs.Common.{rules, ◌≡◌, ℕ, ◌≤◌, length, Some, sym, ◌∙◌, arith}
 use Rattle.model.specs.InTime.{Partition}
 use Rattle.model.specs.Orders.{Order}
 use Rattle.model.specs.Timetables.{Timetable}
@@ -6,29 +6,20 @@ use Rattle.model.specs.Verdicts.{failing_start}
 use Rattle.draft.specs.Drafts.{module_of}
 use Rattle.analysis.specs.declared.places.Places.{Places}
 use Rattle.analysis.specs.Partitions.{seen}
+use Rattle.analysis.proofs.Options.{mapped_or}
 use Rattle.analysis.proofs.Responding.{absent_start}
 use Rattle.analysis.proofs.Verdicts.{drawn_start}
 use Rattle.analysis.proofs.passing.failing_start.Goals as goal
 
-pub returns-in-Some : goal.returns-in-Some
-returns-in-Some g c =
+pub returns : goal.returns
+returns g c =
     let t : Timetable = g.T.Timetable.means c.args.table.now in
     let order : Order = g.O.LocalOrder.order c.args.order.now in
     let some : 1 ≤ t.frame = (g.met.T.Timetable.lawful c.args.table.now).frame_within.0 in
     let places : Places = c.of-places.result in
     let p : Partition = seen g.O.LocalOrder.order c.of-partition.result in
     let i : ℕ = c.args.task in
-    c.first_failing_start.ensures ∙ ap₂ (λ q i. failing_start (seen g.O.LocalOrder.order q) q.places.now.frame i) c.in-Some.ensures.0 (c.in-Some.ensures.1 ∙ c.from.ensures)
-    ∙ ap (λ (x : Places). failing_start p x.frame i) c.of-partition.ensures.placed
-    ∙ drawn_start t _ c.draw-owners.ensures some order (module_of c.args.draft.now) c.args.partition p places c.of-partition.ensures.is c.of-places.ensures.frame c.of-places.ensures.ticks i
-
-pub returns-in-None : goal.returns-in-None
-returns-in-None g c =
-    let t : Timetable = g.T.Timetable.means c.args.table.now in
-    let order : Order = g.O.LocalOrder.order c.args.order.now in
-    let some : 1 ≤ t.frame = (g.met.T.Timetable.lawful c.args.table.now).frame_within.0 in
-    let places : Places = c.of-places.result in
-    let p : Partition = seen g.O.LocalOrder.order c.of-partition.result in
-    let i : ℕ = c.args.task in
-    sym (absent_start p places.frame i places.framed.0 (omega (arith, c.in-None.ensures, c.from.ensures)))
+    mapped_or c.map_or.result (Some 0) (failing_start p places.frame i) c.task.result (length c.of-partition.result.tasks.now ≤ c.from.result) (λ t. (t.partition.now ≡ c.of-partition.result) × (t.number ≡ c.from.result)) _ c.task.ensures c.map_or.ensures
+    (λ n. sym (absent_start p places.frame i places.framed.0 (omega (arith, n, c.from.ensures))))
+    (λ x k e. search rules)
     ∙ drawn_start t _ c.draw-owners.ensures some order (module_of c.args.draft.now) c.args.partition p places c.of-partition.ensures.is c.of-places.ensures.frame c.of-places.ensures.ticks i
