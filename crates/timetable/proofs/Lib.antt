@@ -1,4 +1,3 @@
 mod Opened
 mod Shares
 mod Sequences
-mod Stretches
