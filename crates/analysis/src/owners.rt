@@ -1,7 +1,6 @@
 // The owners of a timetable's places, drawn from it once.
 ghost use Rattle.std.specs.Prelude.{◌≤◌};
 
-use std::array;
 use timetable::Timetable;
 
 #[derive(Drop)]
@@ -12,25 +11,17 @@ pub struct Owners {
 }
 
 impl Owners {
-    ghost use Rattle.std.specs.Prelude.{◌≡◌, ◌<◌, None, cond, nat_lt, slice_index_or};
-    ghost use Rattle.model.specs.Timetables.{owner_at};
+    ghost use Rattle.std.specs.Prelude.{◌≡◌, ◌<◌, None, slice_index_or};
     ghost use Rattle.analysis.specs.Owners.{DrawnFrom};
 
     pub(crate) fn draw<T: Timetable>(table: &T) -> Owners
         ensures { DrawnFrom (T.Timetable.means table.now) result }
     {
         let frame = table.frame();
-        let places = array::from_fn(
-            |place|
-                ensures { result ≡ cond (nat_lt place frame) (owner_at (T.Timetable.means table.entry.now) place) None }
-            {
-                if place < usize::from(frame) {
-                    table.owner(place as u64)
-                } else {
-                    None
-                }
-            },
-        );
+        let mut places = [None; 1024];
+        for place in 0..frame {
+            places[usize::from(place)] = table.owner(u64::from(place));
+        }
         Owners { frame, places }
     }
 

@@ -6,6 +6,7 @@ ghost use Rattle.model.specs.Verdicts.{failing_start};
 ghost use Rattle.draft.specs.Drafts.{module_of};
 ghost use Rattle.analysis.specs.Places.{ticks_of};
 
+use crate::local_task::LocalTask;
 use crate::owners::Owners;
 use crate::partition::Partition;
 use crate::places::Places;
@@ -40,10 +41,16 @@ pub fn failing_start<T: Timetable, O: LocalOrder>(
 ) -> Option<u16>
     ensures { result ≡ failing_start (partition_in (T.Timetable.means table.now) (O.LocalOrder.order order.now) (module_of draft.now) partition) (T.Timetable.means table.now).frame task }
 {
+    let number = usize::from(task);
+    if number >= draft.tasks(partition).len() {
+        return Some(0);
+    }
     let owners = Owners::draw(table);
     let places = Places::of(partition, &owners);
     let partition = Partition::of(draft, order, partition, &places);
-    partition
-        .task(usize::from(task))
-        .map_or(Some(0), |task| task.first_failing_start())
+    let task = LocalTask {
+        partition: &partition,
+        number,
+    };
+    task.first_failing_start()
 }

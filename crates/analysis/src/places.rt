@@ -3,7 +3,6 @@ ghost use Rattle.std.specs.Prelude.{◌≤◌};
 
 use crate::owners::Owners;
 use crate::response::Wanted;
-use std::array;
 
 #[derive(Drop)]
 pub struct Places {
@@ -27,10 +26,9 @@ impl Places {
         if frame < 1 || frame > 1024 {
             return None;
         }
-        Some(Places {
-            frame,
-            owned: array::from_fn(|place| place < usize::from(count)),
-        })
+        let mut owned = [false; 1024];
+        owned[..usize::from(count.min(frame))].fill(true);
+        Some(Places { frame, owned })
     }
 
     // The places that a partition owns.
@@ -38,10 +36,12 @@ impl Places {
         ensures frame { result.frame ≡ owners.now.frame }
         ensures ticks { (u : ℕ) → ticks_of result u ≡ owned_by partition (owner_at (drawn owners.now) u) }
     {
-        Places {
-            frame: owners.frame,
-            owned: array::from_fn(|place| owners.places[place] == Some(partition)),
+        let frame = owners.frame;
+        let mut owned = [false; 1024];
+        for (place, owner) in owners.places[..usize::from(frame)].iter().enumerate() {
+            owned[place] = owner.is_some_and(|other| other == partition);
         }
+        Places { frame, owned }
     }
 
     // The place of a tick.

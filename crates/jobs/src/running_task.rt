@@ -30,9 +30,8 @@ impl RunningTask {
     pub(crate) fn all_resting(heap: Global, tasks: &[Task]) -> Result<Vec<RunningTask>, AllocError>
         ensures { IfOk result (λ v. v.items ≡ map resting tasks.now) }
     {
-        tasks
-            .iter()
-            .map(|task| RunningTask::resting(*task))
-            .collect(heap)
+        let mut list = Vec::with_capacity(heap, tasks.len())?;
+        list.extend(tasks.iter().map(|task| RunningTask::resting(*task)))?;
+        Ok(list)
     }
 }

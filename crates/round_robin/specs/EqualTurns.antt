@@ -5,11 +5,11 @@ use Rattle.model.specs.Timetables.{LawfulTimetable}
 use Rattle.round_robin.specs.Turns.{turns}
 
 module _ (n t : ℕ) (some : 1 ≤ n) (few : n ≤ 8) (tick : 1 ≤ t) (short : n * t ≤ 1024) where
-  some_place : 1 ≤ n * t
+  pub some_place : 1 ≤ n * t
   some_place = omega (arith, mul-pos {m = n} {n = t} (omega arith) (omega arith))
 
   -- a place of the frame is in the turn of a partition
-  in_turn : (x : ℕ) → x < n * t → x / t < n
+  pub in_turn : (x : ℕ) → x < n * t → x / t < n
   in_turn x l = (div-lt_iff_lt-mul {k = t} {x = x} {y = n} (omega arith)).1 l
 
   pub turns_lawful : LawfulTimetable (turns n t)

@@ -48,6 +48,7 @@ fn module_text(
     let table = WindowList::open(heap, frame, windows)?;
     let calls = earliest_releases(heap, &draft, frame)?;
     let flight = fly(heap, draft, table, Listed, 0, calls.as_slice());
+    drop(calls);
     flight.extent?;
     verdict_text(heap, flight.sealed.verdict(), flight.entries.as_slice())
 }

@@ -2,8 +2,7 @@
 use Rattle.std.proofs.Common.{◌≡◌, ℕ, zero, suc, ◌+◌, ◌%◌, ◌<◌, ◌≤◌, Bool, true, false, cond, leb, List, [], ◌∷◌, length, get_or, Some, None, Option, sym, refl, ap, ◌∙◌, inl, inr, arith}
 use mathlib.Core.Path.{fun_ext}
 use Rattle.std.specs.Prelude.{option_and_then, slice_get}
-use Rattle.std.specs.List.Sorted.{IsPartitionedBy, IsPartitionPoint}
-use Rattle.std.proofs.lemmas.List.Sorted.{IsPartitionedBy-leb}
+use Rattle.std.specs.List.Sorted.{IsPartitionPoint}
 use Rattle.std.proofs.lemmas.Bool.{cases_eq, leb-true, leb-false}
 use Rattle.std.proofs.lemmas.Bool.Decides.{nat_tests}
 use Rattle.model.specs.declared.window.Window.{Window}
@@ -14,7 +13,7 @@ use Rattle.timetable.specs.Granted.{is_granted}
 use Rattle.timetable.proofs.Opened.{grants, owner_granted}
 
 -- each window ends before any later one begins
-abbrev InSequence : List Window → Type 0
+abbrev pub InSequence : List Window → Type 0
 InSequence ws = (i j : ℕ) (d : Window) → i < j → j < length ws → end_of (get_or ws i d) ≤ (get_or ws j d).start
 
 -- the window ends before the place x
@@ -34,15 +33,19 @@ windows_in_sequence f n v (w ∷ ws) h i zero d less l = absurd (omega arith)
 windows_in_sequence f n v (w ∷ ws) h zero (suc j) d less l = begins_after f (n + 1) w ws j d (after_it f n v w ws h) (omega arith)
 windows_in_sequence f n v (w ∷ ws) h (suc i) (suc j) d less l = windows_in_sequence f (n + 1) (Some w) ws (after_it f n v w ws h) i j d (omega arith) (omega arith)
 
-in_sequence : (f : ℕ) (ws : List Window) → is_granted (list_answer overlap f ws) ≡ true → InSequence ws
+pub in_sequence : (f : ℕ) (ws : List Window) → is_granted (list_answer overlap f ws) ≡ true → InSequence ws
 in_sequence f ws e =
     let g = both_grant (frame_answer f) _ (grants (list_answer overlap f ws) e) in
     let k = both_grant (count_answer (length ws)) _ g.1 in
     windows_in_sequence f 0 None ws k.1
 
--- so those that have ended by a place stand before the others
-pub partitioned : (f x : ℕ) (ws : List Window) → is_granted (list_answer overlap f ws) ≡ true → IsPartitionedBy (has_ended x) ws
-partitioned f x ws e = IsPartitionedBy-leb end_of ws x (λ i j d m l. elim (cases_eq i j) [ inl z ↦ rw z (omega arith) | inr n ↦ omega (arith, in_sequence f ws e i j d (omega arith) l) ])
+-- before one that has ended all have, and after one that has not none has
+module _ (ws : List Window) (s : InSequence ws) (n x : ℕ) (d : Window) (l : n < length ws) where
+  pub ended_before : end_of (get_or ws n d) ≤ x → (i : ℕ) → i ≤ n → end_of (get_or ws i d) ≤ x
+  ended_before h i k = elim (cases_eq i n) [ inl e ↦ rw e h | inr o ↦ omega (arith, s i n d (omega arith) l) ]
+
+  pub open_after : x < end_of (get_or ws n d) → (i : ℕ) → n ≤ i → i < length ws → x < end_of (get_or ws i d)
+  open_after h i k m = elim (cases_eq i n) [ inl e ↦ rw e h | inr o ↦ omega (arith, s n i d (omega arith) m) ]
 
 -- windows that have not begun do not count
 none_begun : (ws : List Window) (x : ℕ) → ((i : ℕ) (d : Window) → i < length ws → x < (get_or ws i d).start) → window_owner ws x ≡ None

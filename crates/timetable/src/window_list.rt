@@ -20,6 +20,9 @@ pub struct WindowList {
 }
 
 impl WindowList {
+    ghost use Rattle.std.specs.Prelude.{nat_le, false};
+    ghost use Rattle.std.specs.List.Sorted.{IsPartitionPoint};
+    ghost use Rattle.model.specs.WindowLists.{end_of};
     ghost use Rattle.timetable.specs.Lists.{meaning};
 
     // 51, 52, then window by window 53 and 54.
@@ -38,6 +41,23 @@ impl WindowList {
         };
         let windows = windows.to_vec(heap)?;
         Ok(WindowList { frame, windows })
+    }
+
+    // How many windows have ended by a place, by bisection.
+    fn ended_by(&self, place: u64) -> usize
+        ensures { IsPartitionPoint (λ w. nat_le (end_of w) place ≡ true) (λ w. nat_le (end_of w) place ≡ false) self.now.windows.items result }
+    {
+        let mut low = 0;
+        let mut high = self.windows.len();
+        while low < high {
+            let middle = low + (high - low) / 2;
+            if u64::from(self.windows[middle].end()) <= place {
+                low = middle + 1;
+            } else {
+                high = middle;
+            }
+        }
+        low
     }
 
     // What is opened where the check refuses: the bare frame.
@@ -67,9 +87,7 @@ impl Timetable for WindowList {
     // The first window that ends after the place, if it has begun by then.
     fn owner(&self, tick: u64) -> Option<u8> {
         let place = tick % u64::from(self.frame);
-        let next = self
-            .windows
-            .partition_point(|window| u64::from(window.end()) <= place);
+        let next = self.ended_by(place);
         self.windows
             .get(next)
             .filter(|window| u64::from(window.start) <= place)

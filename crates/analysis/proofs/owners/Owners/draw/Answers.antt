@@ -1,8 +1,20 @@
-use Rattle.std.proofs.Common.{◌<◌, cond, ltb, None, ap, ◌∙◌, mod-eq_of_lt, arith, rules}
-use Rattle.std.proofs.lemmas.Bool.{cond-true, lt-ltb}
+use Rattle.std.proofs.Common.{ℕ, ◌%◌, ◌<◌, None, Option, ap, ◌∙◌, mod-eq_of_lt, arith}
+use lib.ListN.{length-replicate}
 use Rattle.model.specs.Timetables.{Timetable, owner_at}
-use Rattle.analysis.proofs.Filling.{filled}
+use Rattle.analysis.proofs.Filling.{fill}
 use Rattle.analysis.proofs.owners.Owners.draw.Goals as goal
+
+pub loop-place-init : goal.loop-place-init
+loop-place-init g c = record { size = length-replicate {A = Option ℕ} 1024 None; filled = λ u l. absurd (omega arith) }
+
+pub loop-place-preserved : goal.loop-place-preserved
+unfolding owner_at
+loop-place-preserved g c =
+    let t : Timetable = g.T.Timetable.means c.args.table.now in
+    let x : ℕ = c.loop-place.place in
+    let within = (g.met.T.Timetable.lawful c.args.table.now).frame_within in
+    let l : x < t.frame = omega (arith, c.frame-frame.ensures) in
+    fill c.loop-place.invariant c.from-in-loop-place.result c.owner.result c.from-in-loop-place.ensures (omega arith) (c.owner.ensures ∙ ap (λ u. t.owner (u % t.frame)) c.from.ensures ∙ ap t.owner (mod-eq_of_lt l))
 
 pub invariant_of-result : goal.invariant_of-result
 invariant_of-result g c =
@@ -10,14 +22,4 @@ invariant_of-result g c =
     record { framed = (omega (arith, c.frame-frame.ensures), omega (arith, c.frame-frame.ensures)) }
 
 pub returns : goal.returns
-unfolding owner_at
-returns g c =
-    let t : Timetable = g.T.Timetable.means c.args.table.now in
-    let within = (g.met.T.Timetable.lawful c.args.table.now).frame_within in
-    record {
-      frame = c.frame-frame.ensures;
-      owner = λ x l.
-          let m : x < c.frame-frame.result = omega (arith, c.frame-frame.ensures) in
-          filled _ _ (λ x. cond (ltb x c.frame-frame.result) (owner_at t x) None) (λ x y q k. search rules) _ 1024 c.from_fn-places.ensures.items x None (omega arith)
-          ∙ cond-true (ltb x c.frame-frame.result) _ _ (lt-ltb x c.frame-frame.result m) ∙ ap t.owner (mod-eq_of_lt l);
-    }
+returns g c = record { frame = c.frame-frame.ensures; owner = λ x l. c.loop-place.invariant.filled x (omega (arith, c.frame-frame.ensures)) }
